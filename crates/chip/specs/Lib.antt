@@ -1,0 +1,6 @@
+pub mod Chip
+pub mod Event
+pub mod Run
+pub mod Stop
+pub mod Transfer
+pub mod Wire

@@ -1,0 +1,40 @@
+use Prim.Native.Nat.{ℕ, _+_, _*_, _/_, _%_}
+use mathlib.Core.Bool.{Bool, true, false, cond, not, _&&_, _||_}
+use lib.Dec.{eqb}
+use Rattle.parts.specs.Place.{weight, bitOf}
+use Rattle.parts.specs.declared.bits.Register.{Register}
+use Rattle.parts.specs.declared.bits.Written.{Written}
+
+-- Transfers, read with the mark: PPEN 0 0 BL1 BL0 RPEL PEL 0
+abbrev pub registerByte : Register → ℕ
+registerByte r = weight (r .ppen) 0x80 + r .bl % 4 * 8 + weight (r .rpel) 4 + weight (r .pel) 2
+
+abbrev pub latched : Register → Bool → ℕ → Written
+latched r busy note = record { register = r; busy = busy; note = note }
+
+abbrev pub withPel : Register → Bool → Register
+withPel r on = record { ppen = r .ppen; bl = r .bl; rpel = r .rpel; pel = on }
+
+abbrev pub withRpel : Register → Bool → Register
+withRpel r on = record { ppen = r .ppen; bl = r .bl; rpel = on; pel = r .pel }
+
+-- rule 1: bit 0, 5 or 6 set
+abbrev pub reserved : ℕ → Bool
+reserved byte = bitOf byte 0 || bitOf byte 5 || bitOf byte 6
+
+-- rule 2: RPEL 0
+unfoldable pub latchWritten : Register → ℕ → Written
+latchWritten r byte =
+    cond (eqb byte 0x00) (latched (withPel r false) false 3)
+    (cond (eqb byte 0x02) (latched (withPel r true) false 3)
+    (cond (eqb byte 0x06 && r .pel) (latched (withRpel r true) false 3)
+    (latched r false 6)))
+
+-- rule 3: RPEL 1
+unfoldable pub lockWritten : Register → ℕ → Bool → Written
+lockWritten r byte pin =
+    cond (not (eqb (byte % 8) 0b010) || (r .ppen && pin)) (latched r false 6)
+    (latched (record { ppen = bitOf byte 7; bl = byte / 8 % 4; rpel = false; pel = r .pel }) true 2)
+
+unfoldable pub written : Register → ℕ → Bool → Written
+written r byte pin = cond (reserved byte) (latched r false 6) (cond (r .rpel) (lockWritten r byte pin) (latchWritten r byte))

@@ -1,0 +1,22 @@
+// The first locked address of each part and BL.
+ghost use mathlib.Core.Path.{_≡_};
+ghost use Rattle.parts.specs.Locks.{firstLocked};
+
+// For each part, then for BL 0 to 3: the first locked address, or 4000h where none is.
+const FIRST_LOCKED: [[u16; 4]; 2] = [
+    [0x4000, 0x3000, 0x2000, 0x0000],
+    [0x4000, 0x3000, 0x2000, 0x0000],
+];
+
+// The first locked address of a part at this BL, or 4000h.
+pub fn first_locked(part: u8, bl: u8) -> u16
+    ensures { λ r. ⌜ r ≡ firstLocked part bl ⌝ }
+{
+    if 1 < part {
+        return 0x4000;
+    }
+    if 3 < bl {
+        return 0x4000;
+    }
+    FIRST_LOCKED[part as usize][bl as usize]
+}

@@ -1,0 +1,18 @@
+-- `event_of` meets its contract. Assumes nothing.
+use borrow.Author.Needs.{needs}
+use borrow.Author.Tests.{eq-eqb, ne-eqb}
+use Rattle.trace.specs.Bytes.{eventOf}
+use Rattle.trace.proofs.event_of.Statement.{statement}
+use Rattle.trace.proofs.event_of.Tie as tie
+
+pub event-of-spec : {M : Type 1} → statement M
+unfolding eventOf
+event-of-spec =
+    tie.close
+    (tie.spec
+    (λ c. simp (eq-eqb _ _ (c .if1 .taken)))
+    (λ c. simp (eq-eqb _ _ (c .if2 .taken), ne-eqb _ _ (c .before .if1 .left)))
+    (λ c κs. search needs)
+    (λ c κs. search needs)
+    (λ c κs. search needs)
+    (λ c. simp (c .bit-of3 .ensures, c .before .bit-of2 .ensures, c .before .before .bit-of .ensures, ne-eqb _ _ (c .before .before .before .if2 .left), ne-eqb _ _ (c .before .before .before .before .if1 .left))))
