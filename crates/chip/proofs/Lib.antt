@@ -1,1 +1,9 @@
+pub mod EventLaws
+pub mod FitLaws
+pub mod LockLaws
+pub mod RangeLaws
+pub mod RunLaws
+pub mod StepLaws
+pub mod StopLaws
 pub mod TransferLaws
+pub mod ViewLaws

@@ -3,4 +3,5 @@ pub mod Event
 pub mod Run
 pub mod Stop
 pub mod Transfer
+pub mod View
 pub mod Wire

@@ -1,13 +1,19 @@
--- What is known of the first locked address without its table: where it lies past the table, and what holds of each entry holds of it.
--- Assumes nothing.
-use Prim.Native.Nat.{ℕ, zero, suc, _<_, _≤_}
-use mathlib.Core.Path.{_≡_, refl, ap}
+-- What is known of the first locked address without its table: where it lies past the table, what holds of each entry holds of it, and
+-- that a sector is locked whole. Assumes nothing.
+use Prim.Native.Nat.{ℕ, zero, suc, _%_, _<_, _≤_}
+use mathlib.Core.Bool.{Bool, true, false}
+use mathlib.Core.Path.{_≡_, refl, sym}
 use mathlib.Core.List.{List, [], _∷_}
+use native.Mathlib.Nat.{lt-of-not-le, not-le-of-lt}
 use native.Mathlib.Omega.{arith}
+use borrow.Author.Tests.{leb-true, leb-false, le-leb, lt-leb}
+use lib.Dec.{leb}
 use lib.ListN.{length, getD, List·getD-eq-default}
 use Rattle.parts.specs.Locks.{firstLocked, lockTable}
+use Rattle.parts.specs.Sector.{sectorStart}
+use Rattle.parts.proofs.SectorLaws.{start-again}
 
--- past the parts, and past BL 3, nothing is locked
+-- past the parts nothing is locked
 pub first-past-part : (part bl : ℕ) → 1 < part → firstLocked part bl ≡ 0x4000
 unfolding firstLocked
 first-past-part part bl h = rw (List·getD-eq-default lockTable [] {n = part} h)
@@ -27,6 +33,7 @@ first-by P none one two all (suc zero) (suc (suc (suc zero))) = all
 first-by P none one two all (suc zero) (suc (suc (suc (suc bl)))) = none
 first-by P none one two all (suc (suc part)) bl = none
 
+-- past BL 3 nothing is locked
 pub first-past-bl : (part bl : ℕ) → 3 < bl → firstLocked part bl ≡ 0x4000
 unfolding firstLocked
 first-past-bl zero bl h = List·getD-eq-default (getD lockTable 0 []) 0x4000 h
@@ -39,8 +46,35 @@ any-default [] i d e h = absurd (omega arith)
 any-default (x ∷ l) zero d e h = refl
 any-default (x ∷ l) (suc i) d e h = any-default l i d e (omega arith)
 
+-- inside the table the first locked address is its entry
 pub first-inside : (part bl : ℕ) → part ≤ 1 → bl ≤ 3 → getD (getD lockTable part []) bl 0 ≡ firstLocked part bl
 unfolding firstLocked
 first-inside zero bl p b = any-default (getD lockTable 0 []) bl 0 0x4000 (omega arith)
 first-inside (suc zero) bl p b = any-default (getD lockTable 1 []) bl 0 0x4000 (omega arith)
 first-inside (suc (suc part)) bl p b = absurd (omega arith)
+
+-- a first locked address is the start of a sector
+pub first-starts : (part bl : ℕ) → firstLocked part bl % 32 ≡ 0
+first-starts part bl = first-by (λ first. first % 32 ≡ 0) refl refl refl refl part bl
+
+-- a first locked address is in the array, or its end where none is
+pub first-most : (part bl : ℕ) → firstLocked part bl ≤ 0x4000
+first-most part bl = first-by (λ first. first ≤ 0x4000) (omega arith) (omega arith) (omega arith) (omega arith) part bl
+
+-- a test that is passed at each of two numbers or at neither
+leb-same : (first a b : ℕ) → (first ≤ a → first ≤ b) → (first ≤ b → first ≤ a) → leb first a ≡ leb first b
+leb-same first a b there back = go (leb first a) refl
+  where
+    go : (t : Bool) → leb first a ≡ t → t ≡ leb first b
+    go true e = sym (le-leb first b (there (leb-true first a e)))
+    go false e = sym (lt-leb first b (lt-of-not-le (λ h. not-le-of-lt (leb-false first a e) (back h))))
+
+-- a locked sector is locked whole: of two addresses of one sector both are locked, or neither
+pub locked-whole : (part bl a b : ℕ) → sectorStart a ≡ sectorStart b → leb (firstLocked part bl) a ≡ leb (firstLocked part bl) b
+locked-whole part bl a b same =
+    let start : firstLocked part bl % 32 ≡ 0 = first-starts part bl in
+    leb-same (firstLocked part bl) a b (omega arith) (omega arith)
+
+-- an address is locked where its sector's start is
+pub locked-from-start : (part bl a : ℕ) → leb (firstLocked part bl) (sectorStart a) ≡ leb (firstLocked part bl) a
+locked-from-start part bl a = locked-whole part bl (sectorStart a) a (start-again a)

@@ -1,0 +1,82 @@
+-- The range of a chip as a record over its fields, so that what changes other fields keeps it. Assumes nothing.
+use Prim.Native.Nat.{ℕ, _≤_}
+use mathlib.Core.Bool.{Bool, true, false, _&&_}
+use mathlib.Core.Path.{_≡_, refl}
+use native.Mathlib.Omega.{arith}
+use borrow.Author.Tests.{leb-true, le-leb}
+use lib.Dec.{leb}
+use Rattle.parts.specs.Place.{placeFits}
+use Rattle.parts.specs.declared.transfer.Place.{Place}
+use Rattle.parts.proofs.CondLaws.{cond-by, and-left, and-right}
+use Rattle.chip.specs.Chip.{chipFits, powerUp, newChip, standardChip, atPowerUp}
+use Rattle.chip.specs.Event.{made}
+use Rattle.chip.specs.declared.entry.Made.{Made}
+use Rattle.chip.specs.declared.model.Chip.{Chip}
+
+-- the six ranges that refusal 2 looks at
+pub record Within (p s b k : ℕ) (at : Place) (n : ℕ) : Type 0 where
+  pub part : p ≤ 1
+  pub select : s ≤ 7
+  pub bl : b ≤ 3
+  pub counter : k ≤ 0x3fff
+  pub place : placeFits at ≡ true
+  pub count : n ≤ 33
+
+-- a chip in range
+abbrev pub Fits : Chip → Type 0
+Fits c = Within (c .part) (c .select) (c .register .bl) (c .counter) (c .place) (c .load .count)
+
+-- six tests that pass together pass each
+six : (a b c d e f : Bool) → (a && b && c && d && e && f) ≡ true → (a ≡ true) × (b ≡ true) × (c ≡ true) × (d ≡ true) × (e ≡ true) × (f ≡ true)
+six a b c d e f h =
+    let h₅ = and-left (a && b && c && d && e) f h in
+    let h₄ = and-left (a && b && c && d) e h₅ in
+    let h₃ = and-left (a && b && c) d h₄ in
+    let h₂ = and-left (a && b) c h₃ in
+    (and-left a b h₂, and-right a b h₂, and-right (a && b) c h₃, and-right (a && b && c) d h₄, and-right (a && b && c && d) e h₅, and-right (a && b && c && d && e) f h)
+
+-- a chip that passes the test of refusal 2 is in range
+pub fits-of : (c : Chip) → chipFits c ≡ true → Fits c
+unfolding chipFits
+fits-of c h =
+    let t = six (leb (c .part) 1) (leb (c .select) 7) (leb (c .register .bl) 3) (leb (c .counter) 0x3fff) (placeFits (c .place)) (leb (c .load .count) 33) h in
+    record {
+      part = leb-true (c .part) 1 (t .0);
+      select = leb-true (c .select) 7 (t .1);
+      bl = leb-true (c .register .bl) 3 (t .2);
+      counter = leb-true (c .counter) 0x3fff (t .3);
+      place = t .4;
+      count = leb-true (c .load .count) 33 (t .5);
+    }
+
+-- a chip in range passes it
+pub fits-so : (c : Chip) → Fits c → chipFits c ≡ true
+unfolding chipFits
+fits-so c f = rw (le-leb _ _ (f .part), le-leb _ _ (f .select), le-leb _ _ (f .bl), le-leb _ _ (f .counter), f .place, le-leb _ _ (f .count))
+
+-- a chip at power-up is in range if its part, select and BL are
+pub up-fits : (part select : ℕ) (ppen : Bool) (bl : ℕ) → part ≤ 1 → select ≤ 7 → bl ≤ 3 → Fits (atPowerUp part select ppen bl)
+unfolding placeFits
+up-fits part select ppen bl p s b = record { part = p; select = s; bl = b; counter = omega arith; place = refl; count = omega arith }
+
+-- a new chip is in range
+pub new-fits : (part select : ℕ) → part ≤ 1 → select ≤ 7 → chipFits (newChip part select) ≡ true
+new-fits part select p s = fits-so (newChip part select) (up-fits part select false 0 p s (omega arith))
+
+-- a chip in range is in range after a power-up
+pub power-fits : (c : Chip) → Fits c → Fits (powerUp c)
+power-fits c f = up-fits (c .part) (c .select) (c .register .ppen) (c .register .bl) (f .part) (f .select) (f .bl)
+
+-- whatever part and select are asked for, the chip that is made is in range
+pub made-fits : (part select : ℕ) → chipFits (made part select .chip) ≡ true
+unfolding made
+made-fits part select =
+    cond-by Fit (leb part 1) _ _
+    (λ p. cond-by Fit (leb select 7) _ _ (λ s. new-fits part select (leb-true part 1 p) (leb-true select 7 s)) (λ s. standard))
+    (λ p. standard)
+  where
+    Fit : Made → Type 0
+    Fit m = chipFits (m .chip) ≡ true
+
+    standard : chipFits standardChip ≡ true
+    standard = new-fits 0 0 (omega arith) (omega arith)
