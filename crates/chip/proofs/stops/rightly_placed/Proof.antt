@@ -1,8 +1,8 @@
 -- `rightly_placed` meets its contract: each arm is its clause of `rightly`. Assumes nothing.
 use borrow.Author.Needs.{needs}
 use Rattle.chip.specs.Stop.{rightly}
-use Rattle.chip.proofs.model.rightly_placed.Statement.{statement}
-use Rattle.chip.proofs.model.rightly_placed.Tie as tie
+use Rattle.chip.proofs.stops.rightly_placed.Statement.{statement}
+use Rattle.chip.proofs.stops.rightly_placed.Tie as tie
 
 pub rightly-placed-spec : {M : Type 1} → statement M
 unfolding rightly
