@@ -1,3 +1,11 @@
+-- The chip: the ranges of its numbers, its pull, and how it is at power-up. (The paper, "What a chip carries", "Samples and edges".)
+--
+-- | Name | Meaning |
+-- |---|---|
+-- | `chipFits` | every number is in its range: else refusal 2 |
+-- | `pulls` | the chip pulls the line |
+-- | `atPowerUp` | a chip as power-up leaves it |
+-- | `powerUp`, `newChip`, `standardChip` | after a power-up; new of a part and a select; the standard one |
 use Prim.Native.Nat.{ℕ}
 use mathlib.Core.Bool.{Bool, true, false, not, _&&_}
 use lib.Dec.{leb}
@@ -6,7 +14,7 @@ use Rattle.parts.specs.Place.{placeFits, placePulls}
 use Rattle.parts.specs.declared.transfer.Place.the-variants.{Standby}
 use Rattle.chip.specs.declared.model.Chip.{Chip}
 
--- Refusal 2: part, select, BL, counter, bits received, bit being sent or count outside its range
+-- part 0-1, select 0-7, BL 0-3, counter 0-3FFFh, the place's own, count 0-33
 unfoldable pub chipFits : Chip → Bool
 chipFits c =
     leb (c .part) 1
@@ -16,11 +24,11 @@ chipFits c =
     && placeFits (c .place)
     && leb (c .load .count) 33
 
--- Samples and edges: busy chips do not pull
+-- a busy chip pulls nowhere
 unfoldable pub pulls : Chip → Bool
 pulls c = not (c .busy) && placePulls (c .place)
 
--- Samples and edges: power-up clears busy, PEL, RPEL, counter, mark and load, goes to standby, sets last SCL low and last line high
+-- PPEN and BL outlive the supply; all else is cleared, with SCL low and the line high as the last levels
 abbrev pub atPowerUp : ℕ → ℕ → Bool → ℕ → Chip
 atPowerUp part select ppen bl =
     record {
@@ -36,13 +44,14 @@ atPowerUp part select ppen bl =
       load = noLoad;
     }
 
+-- the same chip after a power-up
 abbrev pub powerUp : Chip → Chip
 powerUp c = atPowerUp (c .part) (c .select) (c .register .ppen) (c .register .bl)
 
--- A new chip has PPEN 0 and BL 0 and is at power-up
+-- PPEN clear, BL 0
 abbrev pub newChip : ℕ → ℕ → Chip
 newChip part select = atPowerUp part select false 0
 
--- The standard chip is the X24128 with select 0
+-- an X24128, select 0
 abbrev pub standardChip : Chip
 standardChip = newChip 0 0

@@ -1,3 +1,18 @@
+-- One event: a sample, program-done or power-up; what it answers, and when it is refused.
+-- (The paper, "Samples and edges" and "Refusals and what they return".)
+--
+-- | Name | Meaning |
+-- |---|---|
+-- | `reacted`, `reactedArray` | the chip and the array after an edge, with the line and the pin of its sample |
+-- | `lineIn`, `edgeIn` | the line in a sample, with the pull before it; the sample's edge |
+-- | `withLevels`, `settled` | the last levels set; the clock of the sample, and the line with the pull after it |
+-- | `sampled`, `sampledArray` | after a sample |
+-- | `programDone` | after a program-done |
+-- | `next`, `nextArray` | after an event |
+-- | `refusal` | 1, 2 or none |
+-- | `answered`, `refused` | an answer, and one that refuses |
+-- | `eventAnswer`, `eventArray` | what one event answers, and the array at its exit |
+-- | `made` | what a new chip answers |
 use Prim.Native.Nat.{ℕ}
 use mathlib.Core.Bool.{Bool, true, false, cond}
 use mathlib.Core.List.{List}
@@ -18,7 +33,7 @@ use Rattle.chip.specs.declared.wire.Event.{Event}
 use Rattle.chip.specs.declared.wire.Event.the-variants.{Sample, ProgramDone, PowerUp}
 use Rattle.chip.specs.declared.wire.Sample.{Sample as Levels}
 
--- what an edge does to the chip, and to the array: with the line and the pin of its sample
+-- the edges, and what each does
 unfoldable pub reacted : Edge → Chip → Bool → Bool → List ℕ → Moved
 reacted Quiet c line pin xs = quiet c
 reacted Start c line pin xs = started c
@@ -26,6 +41,7 @@ reacted Stop c line pin xs = effectMoved (stopEffect c pin) c
 reacted Rise c line pin xs = quiet (rose c line)
 reacted Fall c line pin xs = fell c xs
 
+-- only a stop can write
 unfoldable pub reactedArray : Edge → Chip → Bool → List ℕ → List ℕ
 reactedArray Quiet c pin xs = xs
 reactedArray Start c pin xs = xs
@@ -33,13 +49,15 @@ reactedArray Stop c pin xs = effectArray (stopEffect c pin) c xs
 reactedArray Rise c pin xs = xs
 reactedArray Fall c pin xs = xs
 
--- the line in a sample, with the pull before it
+-- a sample is judged with the pull before it
 abbrev pub lineIn : Chip → Levels → Bool
 lineIn c s = lineOf (pulls c) (s .sda)
 
+-- against the last levels
 abbrev pub edgeIn : Chip → Levels → Edge
 edgeIn c s = edgeOf (c .scl) (s .scl) (c .line) (lineIn c s)
 
+-- the last levels
 abbrev pub withLevels : Chip → Bool → Bool → Chip
 withLevels c scl line =
     record {
@@ -55,18 +73,19 @@ withLevels c scl line =
       load = c .load;
     }
 
--- the line kept and reported is the one after the event
+-- the line that is kept and reported has the pull after the event
 abbrev pub settled : Moved → Levels → Moved
 settled m s = moved (withLevels (m .chip) (s .scl) (lineOf (pulls (m .chip)) (s .sda))) (m .note)
 
--- busy chips track the levels and ignore everything else
+-- a busy chip tracks the levels and nothing else
 unfoldable pub sampled : Chip → List ℕ → Levels → Moved
 sampled c xs s = settled (cond (c .busy) (quiet c) (reacted (edgeIn c s) c (lineIn c s) (s .pin) xs)) s
 
+-- and writes nothing
 unfoldable pub sampledArray : Chip → List ℕ → Levels → List ℕ
 sampledArray c xs s = cond (c .busy) xs (reactedArray (edgeIn c s) c (s .pin) xs)
 
--- program-done ends busy
+-- busy ends, all else stays, the kept line too
 abbrev pub programDone : Chip → Chip
 programDone c =
     record {
@@ -82,35 +101,39 @@ programDone c =
       load = c .load;
     }
 
--- each event makes a next chip from the chip before it, with a note; the line is the one that the next chip keeps
+-- the reported line is the one that the next chip keeps
 unfoldable pub next : Event → Chip → List ℕ → Moved
 next (Sample s) c xs = sampled c xs s
 next ProgramDone c xs = quiet (programDone c)
 next PowerUp c xs = quiet (powerUp c)
 
+-- only a sample can write
 unfoldable pub nextArray : Event → Chip → List ℕ → List ℕ
 nextArray (Sample s) c xs = sampledArray c xs s
 nextArray ProgramDone c xs = xs
 nextArray PowerUp c xs = xs
 
--- one event checks 1, 2
+-- 1 for an array that is not 16,384 bytes, then 2 for a number outside its range
 unfoldable pub refusal : Chip → List ℕ → ℕ
 refusal c xs = cond (eqb (length xs) 16384) (cond (chipFits c) 0 2) 1
 
+-- the answer to an event that is taken
 abbrev pub answered : ℕ → Moved → Answer
 answered number m = record { refusal = number; chip = m .chip; line = m .chip .line; note = m .note }
 
--- a refusal returns the chip as given, line high, note 0
+-- the chip as given, the line high, note 0
 abbrev pub refused : ℕ → Chip → Answer
 refused number c = record { refusal = number; chip = c; line = true; note = 0 }
 
+-- refused or taken
 unfoldable pub eventAnswer : Event → Chip → List ℕ → Answer
 eventAnswer e c xs = cond (eqb (refusal c xs) 0) (answered 0 (next e c xs)) (refused (refusal c xs) c)
 
+-- a refusal writes nothing
 unfoldable pub eventArray : Event → Chip → List ℕ → List ℕ
 eventArray e c xs = cond (eqb (refusal c xs) 0) (nextArray e c xs) xs
 
--- new chip: part above 1 or select above 7; a refusal returns the standard chip
+-- refusal 3, with the standard chip, for a part above 1 or a select above 7
 unfoldable pub made : ℕ → ℕ → Made
 made part select =
     cond (leb part 1) (cond (leb select 7) (record { refusal = 0; chip = newChip part select }) (record { refusal = 3; chip = standardChip }))

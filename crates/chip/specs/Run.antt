@@ -1,3 +1,11 @@
+-- A chip with its array, and rows of events.
+--
+-- | Name | Meaning |
+-- |---|---|
+-- | `World`, `world` | a chip and its array |
+-- | `step`, `noteOf` | what an event leaves, and its note |
+-- | `ran` | what a row of events leaves |
+-- | `lines`, `notes` | the line after each event; each event's note |
 use Prim.Native.Nat.{ℕ}
 use mathlib.Core.Bool.{Bool}
 use mathlib.Core.List.{List, [], _∷_}
@@ -10,22 +18,24 @@ pub record World : Type 0 where
   pub chip : Chip
   pub array : List ℕ
 
+-- the two of them
 abbrev pub world : Chip → List ℕ → World
 world c xs = record { chip = c; array = xs }
 
--- what one event leaves, and its note; the line is the one that the chip keeps
+-- the line after it is the one that the chip keeps
 unfoldable pub step : Event → World → World
 step e w = record { chip = next e (w .chip) (w .array) .chip; array = nextArray e (w .chip) (w .array) }
 
+-- its note
 unfoldable pub noteOf : Event → World → ℕ
 noteOf e w = next e (w .chip) (w .array) .note
 
--- what a row of events leaves
+-- one after the other
 unfoldable pub ran : List Event → World → World
 ran [] w = w
 ran (e ∷ es) w = ran es (step e w)
 
--- the line after each event, and each note
+-- event by event
 unfoldable pub lines : List Event → World → List Bool
 lines [] w = []
 lines (e ∷ es) w = step e w .chip .line ∷ lines es (step e w)

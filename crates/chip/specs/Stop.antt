@@ -1,3 +1,14 @@
+-- What a STOP does to a chip that is not busy, by one of three effects. (The paper, end of "Transfers", and "What a rightly placed STOP does".)
+--
+-- | Name | Meaning |
+-- |---|---|
+-- | `rightly` | a stop in this place is rightly placed |
+-- | `locked c pin a` | the address is locked |
+-- | `arrayEffect` | the ordered rules for an array load |
+-- | `rightEffect` | what a rightly placed stop does |
+-- | `stopEffect` | what any stop does |
+-- | `rested` | the chip in standby with an empty load |
+-- | `effectMoved`, `effectArray` | the chip and its note, and the array, after an effect |
 use Prim.Native.Nat.{ℕ}
 use mathlib.Core.Bool.{Bool, true, false, cond, not, _&&_}
 use mathlib.Core.List.{List}
@@ -17,7 +28,7 @@ use Rattle.chip.specs.declared.model.Effect.{Effect}
 use Rattle.chip.specs.declared.model.Effect.the-variants.{Nothing, Change, Store}
 use Rattle.chip.specs.declared.model.Moved.{Moved}
 
--- a rightly placed stop has exactly one bit received since the last acknowledge
+-- the clock rose once after the last acknowledge: one bit of a data byte has come
 unfoldable pub rightly : Place → Bool
 rightly Standby = false
 rightly (Slave bits got) = false
@@ -32,31 +43,31 @@ rightly (Sending bit byte) = false
 rightly Waiting = false
 rightly Next = false
 
--- whether an address is locked; no part of today asks the pin
+-- from the first locked address on; neither part asks the pin
 abbrev pub locked : Chip → Bool → ℕ → Bool
 locked c pin address = leb (firstLocked (c .part) (c .register .bl)) address
 
--- Array load, in this order
+-- 1. a part load on an X24F128, note 5; 2. a locked sector, note 4; 3. the store, note 1
 unfoldable pub arrayEffect : Chip → Bool → Effect
 arrayEffect c pin =
     cond (eqb (c .part) 1 && not (eqb (c .load .count) 32)) (Nothing 5)
     (cond (locked c pin (sectorStart (c .counter))) (Nothing 4)
     (Store 1))
 
--- What a rightly placed stop does: count 0 nothing; with the mark a load is a register byte, without it an array load
+-- with no data byte nothing; with the mark a register byte, which is the load's place 0; else an array load
 unfoldable pub rightEffect : Chip → Bool → Effect
 rightEffect c pin =
     cond (eqb (c .load .count) 0) (Nothing 0)
     (cond (c .mark) (Change (written (c .register) (getD (c .load .bytes) 0 0) pin))
     (arrayEffect c pin))
 
--- A stop while the chip pulls, one that is rightly placed, any other
+-- while the chip pulls, rightly placed, anywhere else
 unfoldable pub stopEffect : Chip → Bool → Effect
 stopEffect c pin =
     cond (pulls c) (Nothing (dropNote c))
     (cond (rightly (c .place)) (rightEffect c pin) (Nothing (dropNote c)))
 
--- the chip in standby, the load empty
+-- a stop always leads here
 abbrev pub rested : Chip → Register → ℕ → Bool → Bool → Chip
 rested c register counter mark busy =
     record {
@@ -72,11 +83,13 @@ rested c register counter mark busy =
       load = noLoad;
     }
 
+-- a register byte clears counter and mark; a store clears RPEL and begins a cycle
 unfoldable pub effectMoved : Effect → Chip → Moved
 effectMoved (Nothing note) c = moved (emptyAt c Standby) note
 effectMoved (Change w) c = moved (rested c (w .register) 0x0000 false (w .busy)) (w .note)
 effectMoved (Store note) c = moved (rested c (withRpel (c .register) false) (c .counter) (c .mark) true) note
 
+-- only a store writes, and only in the counter's sector
 unfoldable pub effectArray : Effect → Chip → List ℕ → List ℕ
 effectArray (Nothing note) c xs = xs
 effectArray (Change w) c xs = xs

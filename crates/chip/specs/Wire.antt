@@ -1,12 +1,18 @@
+-- The line, and the edge that a sample makes of it. (The paper, "Samples and edges".)
+--
+-- | Name | Meaning |
+-- |---|---|
+-- | `lineOf pull sda` | the line's level |
+-- | `edgeOf scl₀ scl line₀ line` | the edge between the last levels and these |
 use mathlib.Core.Bool.{Bool, true, false, not, _&&_}
 use Rattle.chip.specs.declared.wire.Edge.{Edge}
 use Rattle.chip.specs.declared.wire.Edge.the-variants.{Quiet, Start, Stop, Rise, Fall}
 
--- Line = master lets go and chip does not pull
+-- high where nobody pulls
 abbrev pub lineOf : Bool → Bool → Bool
 lineOf pulls sda = not pulls && sda
 
--- A sample is judged against the last levels: SCL before and now, the line before and now
+-- with SCL high before and now the line tells a START or a STOP; where SCL changed, only that counts (house)
 unfoldable pub edgeOf : Bool → Bool → Bool → Bool → Edge
 edgeOf true true true false = Start
 edgeOf true true false true = Stop

@@ -1,3 +1,13 @@
+-- Freeing a hung bus. (The paper, "Traces, recovery, bench".)
+--
+-- | Name | Meaning |
+-- |---|---|
+-- | `sample scl sda pin` | a sample as an event |
+-- | `pulse pin w` | after one pulse |
+-- | `Freed` | where the pulses ended, and the number of the last |
+-- | `pulsed left k pin w`, `freed pin w` | pulses from number k on, `left` more allowed after it; from the first, ten at most |
+-- | `recovered pin w` | after the pulses and the start |
+-- | `recoveryAnswer`, `recoveryArray` | what recovery answers, and the array at its exit |
 use Prim.Native.Nat.{ℕ, zero, suc, _+_}
 use mathlib.Core.Bool.{Bool, true, false, cond}
 use mathlib.Core.List.{List}
@@ -9,37 +19,40 @@ use Rattle.chip.specs.declared.wire.Event.{Event}
 use Rattle.chip.specs.declared.wire.Event.the-variants.{Sample}
 use Rattle.recovery.specs.declared.Recovered.{Recovered}
 
--- a sample: SCL, SDA, pin
+-- its clock, the master's data, the protect pin
 abbrev pub sample : Bool → Bool → Bool → Event
 sample scl sda pin = Sample (record { scl = scl; sda = sda; pin = pin })
 
--- A pulse is a sample with SCL low, SDA let go, then one with SCL high
+-- the clock low, then high, the data line let go in both
 unfoldable pub pulse : Bool → World → World
 pulse pin w = step (sample true true pin) (step (sample false true pin) w)
 
+-- the world after the last pulse, and its number
 pub record Freed : Type 0 where
   pub world : World
   pub pulses : ℕ
 
--- Pulse until the line is high, and report the number of that pulse: `left` more may come, this one is number k
+-- a high line ends the pulses
 unfoldable pub pulsed : ℕ → ℕ → Bool → World → Freed
 pulsed zero k pin w = record { world = pulse pin w; pulses = k }
 pulsed (suc left) k pin w =
     cond (pulse pin w .chip .line) (record { world = pulse pin w; pulses = k }) (pulsed left (k + 1) pin (pulse pin w))
 
--- at most 10, then one sample with SCL high and SDA pulled
+-- ten at most
 abbrev pub freed : Bool → World → Freed
 freed pin w = pulsed 9 1 pin w
 
+-- then the clock stays high and the data line is pulled: a start
 unfoldable pub recovered : Bool → World → World
 recovered pin w = step (sample true false pin) (freed pin w .world)
 
--- recovery checks 1, 2; a refusal returns the chip as given, pulses 0
+-- refused with 1 or 2: the chip as given, 0 pulses
 unfoldable pub recoveryAnswer : Bool → Chip → List ℕ → Recovered
 recoveryAnswer pin c xs =
     cond (eqb (refusal c xs) 0)
     (record { refusal = 0; chip = recovered pin (world c xs) .chip; pulses = freed pin (world c xs) .pulses })
     (record { refusal = refusal c xs; chip = c; pulses = 0 })
 
+-- a refusal writes nothing
 unfoldable pub recoveryArray : Bool → Chip → List ℕ → List ℕ
 recoveryArray pin c xs = cond (eqb (refusal c xs) 0) (recovered pin (world c xs) .array) xs
