@@ -44,7 +44,7 @@ impl Moved {
 
 impl Chip {
     // What an edge does, with the line and the pin of its sample.
-    pub fn react(self, array: &mut [u8], edge: Edge, line: bool, pin: bool) -> Moved
+    pub(crate) fn react(self, array: &mut [u8], edge: Edge, line: bool, pin: bool) -> Moved
         ensures { λ r. ⌜ (r ≡ reacted edge self line pin (now (array .entry))) × (now (array .exit) ≡ reactedArray edge self pin (now (array .entry))) ⌝ }
     {
         match edge {
@@ -57,7 +57,7 @@ impl Chip {
     }
 
     // A sample: a busy chip tracks the levels alone, another reacts to the edge.
-    pub fn sample(self, array: &mut [u8], sample: Sample) -> Moved
+    pub(crate) fn sample(self, array: &mut [u8], sample: Sample) -> Moved
         ensures { λ r. ⌜ (r ≡ sampled self (now (array .entry)) sample) × (now (array .exit) ≡ sampledArray self (now (array .entry)) sample) ⌝ }
     {
         let busy = self.busy;

@@ -96,7 +96,7 @@ impl Chip {
     }
 
     // Whether each number that the chip carries is in its range.
-    pub fn fits(self) -> bool
+    pub(crate) fn fits(self) -> bool
         ensures { λ r. ⌜ r ≡ chipFits self ⌝ }
     {
         let place = self.place;
@@ -111,7 +111,7 @@ impl Chip {
     }
 
     // Whether the chip pulls the line.
-    pub fn pulls(self) -> bool
+    pub(crate) fn pulls(self) -> bool
         ensures { λ r. ⌜ r ≡ pulls self ⌝ }
     {
         let place = self.place;

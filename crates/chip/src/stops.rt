@@ -36,7 +36,7 @@ fn rightly_placed(place: Place) -> bool
 
 impl Chip {
     // Whether an address is locked. No part of today asks the pin.
-    pub fn locks(self, pin: bool, address: u16) -> bool
+    pub(crate) fn locks(self, pin: bool, address: u16) -> bool
         ensures { λ r. ⌜ r ≡ locked self pin address ⌝ }
     {
         let first = first_locked(self.part, self.register.bl);
@@ -93,7 +93,7 @@ impl Chip {
     }
 
     // A stop: standby, the load empty, and what the stop does to register and array.
-    pub fn stop(self, array: &mut [u8], pin: bool) -> Moved
+    pub(crate) fn stop(self, array: &mut [u8], pin: bool) -> Moved
         ensures { λ r. ⌜ (r ≡ effectMoved (stopEffect self pin) self) × (now (array .exit) ≡ effectArray (stopEffect self pin) self (now (array .entry))) ⌝ }
     {
         let effect = self.stop_effect(pin);

@@ -11,7 +11,7 @@ use parts::transfer::Place;
 
 impl Chip {
     // A start: any load is dropped, a slave byte comes.
-    pub fn start(self) -> Moved
+    pub(crate) fn start(self) -> Moved
         ensures { λ r. ⌜ r ≡ started self ⌝ }
     {
         let note = self.drop_note();
@@ -22,7 +22,7 @@ impl Chip {
     }
 
     // A clock rise: the bit on the line is taken.
-    pub fn rise(self, line: bool) -> Chip
+    pub(crate) fn rise(self, line: bool) -> Chip
         ensures { λ r. ⌜ r ≡ rose self line ⌝ }
     {
         let place = self.place;
@@ -156,7 +156,7 @@ impl Chip {
     }
 
     // A clock fall: a whole byte is taken, an acknowledge ends, the next bit is sent.
-    pub fn fall(self, array: &[u8]) -> Moved
+    pub(crate) fn fall(self, array: &[u8]) -> Moved
         ensures { λ r. ⌜ r ≡ fell self (now (array .entry)) ⌝ }
     {
         let place = self.place;

@@ -25,14 +25,14 @@ pub enum Edge {
 }
 
 // The line: high where the master lets go and the chip does not pull.
-pub fn line_of(pulls: bool, sda: bool) -> bool
+pub(crate) fn line_of(pulls: bool, sda: bool) -> bool
     ensures { λ r. ⌜ r ≡ lineOf pulls sda ⌝ }
 {
     !pulls & sda
 }
 
 // The edge between the last levels and these.
-pub fn edge_of(scl_before: bool, scl: bool, line_before: bool, line: bool) -> Edge
+pub(crate) fn edge_of(scl_before: bool, scl: bool, line_before: bool, line: bool) -> Edge
     ensures { λ r. ⌜ r ≡ edgeOf «scl_before» scl «line_before» line ⌝ }
 {
     if scl_before {

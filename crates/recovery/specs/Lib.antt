@@ -1,1 +1,2 @@
+pub mod Pulses
 pub mod Recovery

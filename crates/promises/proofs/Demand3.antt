@@ -1,0 +1,114 @@
+-- Demand 3: whatever noise comes with the protect pin high, a protected chip is freed by ten pulses and then reads back every locked byte.
+-- Assumes nothing.
+use Prim.Native.Nat.{ℕ, _+_, _%_, _≤_}
+use mathlib.Core.Bool.{Bool, true, false}
+use mathlib.Core.List.{List}
+use mathlib.Core.Path.{_≡_, refl, ap, _∙_, sym, subst, subst₂}
+use lib.ListN.{getD}
+use Rattle.chip.specs.Chip.{chipFits, newChip}
+use Rattle.chip.specs.Event.{next, nextArray, refusal}
+use Rattle.chip.specs.Run.{World, world, step, lines}
+use Rattle.chip.specs.declared.wire.Event.the-variants.{ProgramDone}
+use Rattle.chip.proofs.EventLaws.{next-taken, taken-of, taken-so}
+use Rattle.chip.proofs.FitLaws.{new-fits, fits-of}
+use Rattle.chip.proofs.RunLaws.{ran-same, ran-taken, ran-guarded}
+use Rattle.recovery.specs.Pulses.{Unchanged}
+use Rattle.recovery.specs.Recovery.{recovered, recoveryAnswer, recoveryArray}
+use Rattle.recovery.proofs.TenPulses.{first-high}
+use Rattle.recovery.proofs.Recovering.{recovery-keeps, recovery-starts}
+use Rattle.promises.specs.Demand3.{FromPowerUp, Scene, noisy, done, free, started, heard, Protected, Promised}
+use Rattle.promises.specs.RandomRead.{randomRead, pinned, Bytes, held, Returns}
+use Rattle.promises.proofs.Held.{held-same, held-bytes}
+use Rattle.promises.proofs.Octets.{ran-bytes}
+use Rattle.promises.proofs.RandomRead.{random-read, read-bytes}
+
+-- For any idle chip in range, in whatever state it is: after its recovery a random read at its own select is acknowledged and returns the
+-- bytes of its array
+pub freed-and-read : (pin : Bool) (w : World) → chipFits (w .chip) ≡ true → w .chip .busy ≡ false → (address n : ℕ) → address ≤ 0x3fff → (pins : ℕ → Bool)
+    → Returns n (lines (pinned pins (randomRead (w .chip .select) address n)) (recovered pin w)) (held (w .array) address n)
+freed-and-read pin w fits idle address n h pins =
+    let v : World = recovered pin w in
+    let keeps : Unchanged w v = recovery-keeps pin w in
+    let select-in : v .chip .select ≤ 7 = subst (λ (k : ℕ). k ≤ 7) (sym (keeps .select)) (fits-of (w .chip) fits .select) in
+    subst₂ (λ (k : ℕ) (xs : List ℕ). Returns n (lines (pinned pins (randomRead k address n)) v) (held xs address n)) (keeps .select) (keeps .array)
+    (random-read v (recovery-starts pin w fits idle) select-in address n h pins)
+
+-- program-done ends busy
+done-idle : (w : World) → step ProgramDone w .chip .busy ≡ false
+unfolding step next
+done-idle w = refl
+
+-- it keeps the select
+done-select : (w : World) → step ProgramDone w .chip .select ≡ w .chip .select
+unfolding step next
+done-select w = refl
+
+-- and the array
+done-array : (w : World) → step ProgramDone w .array ≡ w .array
+unfolding step nextArray
+done-array w = refl
+
+module _ (s : Scene) (w : World) (taken : refusal (w .chip) (w .array) ≡ 0) (p : Protected s w) where
+  -- recovery is not refused after the noise: still an array of 16,384 bytes
+  done-taken : refusal (done s w .chip) (done s w .array) ≡ 0
+  unfolding step
+  done-taken = next-taken ProgramDone (noisy s w .chip) (noisy s w .array) (ran-taken (s .noise) w taken)
+
+  -- and a chip in range
+  done-in : chipFits (done s w .chip) ≡ true
+  done-in = taken-of (done s w .chip) (done s w .array) done-taken .1
+
+  -- with its own select
+  select-same : done s w .chip .select ≡ w .chip .select
+  select-same = done-select (noisy s w) ∙ ran-same (s .noise) w .1
+
+  -- the noise leaves every locked byte
+  noise-keeps : held (done s w .array) (s .address) (s .n) ≡ held (w .array) (s .address) (s .n)
+  noise-keeps =
+      held-same (done s w .array) (w .array) (s .n) (s .address) (p .address-in)
+      (λ k l. ap (λ (xs : List ℕ). getD xs ((s .address + k) % 0x4000) 0) (done-array (noisy s w))
+      ∙ ran-guarded (s .noise) w (p .ppen-set) (p .pin-high) .bytes ((s .address + k) % 0x4000) (p .stays-locked k l))
+
+  -- and the read returns them
+  read-back : Returns (s .n) (heard s w) (held (w .array) (s .address) (s .n))
+  read-back =
+      subst₂ (λ (k : ℕ) (bytes : List ℕ). Returns (s .n) (lines (pinned (s .pins) (randomRead k (s .address) (s .n))) (started s w)) bytes) select-same noise-keeps
+      (freed-and-read (s .pin) (done s w) done-in (done-idle (noisy s w)) (s .address) (s .n) (p .address-in) (s .pins))
+
+  -- what the code answers
+  answers : recoveryAnswer (s .pin) (done s w .chip) (done s w .array) ≡ record { refusal = 0; chip = started s w .chip; pulses = free s w .pulses }
+  unfolding recoveryAnswer
+  answers = rw done-taken
+
+  -- and leaves in the array
+  answers-array : recoveryArray (s .pin) (done s w .chip) (done s w .array) ≡ started s w .array
+  unfolding recoveryArray
+  answers-array = rw done-taken
+
+-- Demand 3 for any chip in range with an array of 16,384 bytes, however it came there
+pub protected-read : (s : Scene) (w : World) → refusal (w .chip) (w .array) ≡ 0 → Bytes (w .array) → Protected s w → Promised s w
+protected-read s w taken b p =
+    let back : Returns (s .n) (heard s w) (held (w .array) (s .address) (s .n)) = read-back s w taken p in
+    record {
+      line-high = first-high (s .pin) (done s w) (done-in s w taken p);
+      start-seen = recovery-starts (s .pin) (done s w) (done-in s w taken p) (done-idle (noisy s w));
+      recovery-keeps = recovery-keeps (s .pin) (done s w);
+      code-answers = answers s w taken p;
+      code-array = answers-array s w taken p;
+      acknowledged = back .acknowledged;
+      bits = back .bits;
+      bytes =
+          read-bytes (s .n) (heard s w) (held (w .array) (s .address) (s .n)) back
+          (held-bytes (w .array) (s .n) (s .address) b);
+    }
+
+-- Demand 3: take a chip run from power-up that is protected
+pub demand-3 : (s : Scene) (w : World) → FromPowerUp w → Protected s w → Promised s w
+demand-3 s w f p =
+    protected-read s w
+    (rw (f .after-run) (ran-taken (f .run) new (taken-so (new .chip) (new .array) (f .array-whole) (new-fits (f .part) (f .select) (f .part-in) (f .select-in)))))
+    (rw (f .after-run) (ran-bytes (f .run) (f .part) (f .select) (f .array) (f .array-bytes)))
+    p
+  where
+    new : World
+    new = world (newChip (f .part) (f .select)) (f .array)

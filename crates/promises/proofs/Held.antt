@@ -1,0 +1,37 @@
+-- The bytes that an array holds from an address on: how many, when two arrays hold the same, and that they are bytes. Assumes nothing.
+use Prim.Native.Nat.{ℕ, zero, suc, _+_, _%_, _≤_, _<_}
+use mathlib.Core.List.{List, _∷_}
+use mathlib.Core.Path.{_≡_, refl, ap, ap₂, subst}
+use native.Mathlib.Omega.{arith}
+use lib.ListN.{length, getD}
+use Rattle.parts.specs.Sector.{nextAddress}
+use Rattle.promises.specs.RandomRead.{Bytes, held}
+
+-- n bytes are n
+pub length-held : (xs : List ℕ) (address n : ℕ) → length (held xs address n) ≡ n
+unfolding held
+length-held xs address zero = refl
+length-held xs address (suc n) = ap suc (length-held xs (nextAddress address) n)
+
+-- arrays that agree at each address of a read hold the same bytes there
+pub held-same : (xs ys : List ℕ) (n address : ℕ) → address ≤ 0x3fff → ((k : ℕ) → k < n → getD xs ((address + k) % 0x4000) 0 ≡ getD ys ((address + k) % 0x4000) 0)
+    → held xs address n ≡ held ys address n
+unfolding held
+held-same xs ys zero address h same = refl
+held-same xs ys (suc n) address h same =
+    ap₂ (λ (b : ℕ) (l : List ℕ). b ∷ l)
+    (subst (λ (a : ℕ). getD xs a 0 ≡ getD ys a 0) at (same 0 (omega arith)))
+    (held-same xs ys n (nextAddress address) (omega arith) (λ k l. subst (λ (a : ℕ). getD xs a 0 ≡ getD ys a 0) (further k) (same (suc k) (omega arith))))
+  where
+    at : (address + 0) % 0x4000 ≡ address
+    at = omega arith
+
+    further : (k : ℕ) → (address + suc k) % 0x4000 ≡ (nextAddress address + k) % 0x4000
+    further k = omega arith
+
+-- of an array of bytes they are bytes
+pub held-bytes : (xs : List ℕ) (n address : ℕ) → Bytes xs → Bytes (held xs address n)
+unfolding held
+held-bytes xs zero address h k = omega arith
+held-bytes xs (suc n) address h zero = h address
+held-bytes xs (suc n) address h (suc k) = held-bytes xs n (nextAddress address) h k

@@ -1,0 +1,136 @@
+-- Demand 3 speaks of something, and what it takes is needed: a concrete run that meets all of it, and two that fail one hypothesis each and
+-- lose a locked byte. Assumes nothing.
+use Prim.Native.Nat.{ℕ, _+_, _%_}
+use mathlib.Core.Bool.{true, false}
+use mathlib.Core.List.{List, [], _∷_, map}
+use mathlib.Core.Path.{_≡_, refl, _∙_}
+use native.Mathlib.Omega.{arith}
+use lib.Dec.{leb·zero}
+use lib.ListN.{length, length-set, length-replicate, replicate, set}
+use Rattle.parts.specs.Load.{loaded, storedTo}
+use Rattle.parts.specs.Locks.{firstLocked}
+use Rattle.parts.specs.Place.{risen, placePulls}
+use Rattle.parts.specs.Register.{written, latchWritten, lockWritten}
+use Rattle.chip.specs.Chip.{pulls}
+use Rattle.chip.specs.Event.{next, nextArray, sampled, sampledArray, reacted, reactedArray}
+use Rattle.chip.specs.Run.{step, ran, lines}
+use Rattle.chip.specs.Stop.{stopEffect, rightEffect, arrayEffect, rightly, effectMoved, effectArray}
+use Rattle.chip.specs.Transfer.{fallIn, slaveTaken, addressTaken, arrayData, registerData, byteBegun, byteEnded}
+use Rattle.chip.specs.View.{every, pinHigh, pinsHigh}
+use Rattle.chip.specs.Wire.{edgeOf}
+use Rattle.trace.specs.Bytes.{eventOf}
+use Rattle.recovery.specs.Recovery.{pulse, pulsed, recovered}
+use Rattle.promises.specs.Demand3.{FromPowerUp, free, heard, Protected, Promised}
+use Rattle.promises.specs.RandomRead.{Bytes, pinned, clocks, byteSent, byteTaken, bytesTaken, randomRead, highs, bitsIn, byteOf, held, bytesRead}
+use Rattle.promises.specs.Runs.{writing, high, lowAtStop, registerSet, attack, cutRead, bench, registered, protected, unprotected, worked, attacked, lows, Lost}
+use Rattle.promises.proofs.Demand3.{demand-3}
+use Rattle.promises.proofs.Octets.{set-bytes, same-bytes}
+
+-- the random read of two bytes from 3FFFh at select 5, as event bytes with the pin low: slave byte AAh, 3Fh, FFh, the restart, ABh, two bytes
+pub read-spelled : pinned (λ k. false) (randomRead 5 0x3fff 2) ≡ map eventOf
+    (2 ∷ 3 ∷ 0 ∷ 1 ∷ 2 ∷ 3 ∷ 0 ∷ 1 ∷ 2 ∷ 3 ∷ 0 ∷ 1 ∷ 2 ∷ 3 ∷ 0 ∷ 1 ∷ 2 ∷ 3
+    ∷ 0 ∷ 1 ∷ 0 ∷ 1 ∷ 2 ∷ 3 ∷ 2 ∷ 3 ∷ 2 ∷ 3 ∷ 2 ∷ 3 ∷ 2 ∷ 3 ∷ 2 ∷ 3 ∷ 2 ∷ 3
+    ∷ 2 ∷ 3 ∷ 2 ∷ 3 ∷ 2 ∷ 3 ∷ 2 ∷ 3 ∷ 2 ∷ 3 ∷ 2 ∷ 3 ∷ 2 ∷ 3 ∷ 2 ∷ 3 ∷ 2 ∷ 3
+    ∷ 2 ∷ 3 ∷ 1
+    ∷ 2 ∷ 3 ∷ 0 ∷ 1 ∷ 2 ∷ 3 ∷ 0 ∷ 1 ∷ 2 ∷ 3 ∷ 0 ∷ 1 ∷ 2 ∷ 3 ∷ 2 ∷ 3 ∷ 2 ∷ 3
+    ∷ 2 ∷ 3 ∷ 2 ∷ 3 ∷ 2 ∷ 3 ∷ 2 ∷ 3 ∷ 2 ∷ 3 ∷ 2 ∷ 3 ∷ 2 ∷ 3 ∷ 2 ∷ 3 ∷ 0 ∷ 1
+    ∷ 2 ∷ 3 ∷ 2 ∷ 3 ∷ 2 ∷ 3 ∷ 2 ∷ 3 ∷ 2 ∷ 3 ∷ 2 ∷ 3 ∷ 2 ∷ 3 ∷ 2 ∷ 3 ∷ 2 ∷ 3 ∷ [])
+unfolding pinned randomRead byteSent byteTaken bytesTaken clocks eventOf
+read-spelled = refl
+
+-- what is computed of the runs
+record Computed : Type 0 where
+  ppen : protected .chip .register .ppen ≡ true
+  bl : protected .chip .register .bl ≡ 3
+  first : firstLocked (protected .chip .part) (protected .chip .register .bl) ≡ 0
+  pins : pinsHigh (worked .noise) ≡ true
+  pulses : free worked protected .pulses ≡ 10
+  back : bytesRead 2 (heard worked protected) ≡ 0xa5 ∷ 0x00 ∷ []
+  no-ppen : unprotected .chip .register .ppen ≡ false
+  attack-pins : pinsHigh (attacked high .noise) ≡ true
+  no-ppen-lost : Lost (attacked high) unprotected 0x00 0x55
+  low-pins : lows (attacked lowAtStop .noise) ≡ 1
+  low-lost : Lost (attacked lowAtStop) protected 0x00 0x55
+
+-- all of it at once
+computed : Computed
+unfolding ran lines step next nextArray sampled sampledArray reacted reactedArray edgeOf pulls placePulls risen fallIn slaveTaken addressTaken arrayData registerData byteBegun byteEnded stopEffect rightEffect arrayEffect rightly effectMoved effectArray firstLocked written latchWritten lockWritten loaded storedTo pinned clocks byteSent byteTaken bytesTaken randomRead highs bitsIn byteOf held every pinHigh pulse pulsed recovered writing registerSet attack cutRead bench lows
+computed =
+    record {
+      ppen = refl;
+      bl = refl;
+      first = refl;
+      pins = refl;
+      pulses = refl;
+      back = refl;
+      no-ppen = refl;
+      attack-pins = refl;
+      no-ppen-lost = record { locked-before = refl; held-before = refl; read-after = refl };
+      low-pins = refl;
+      low-lost = record { locked-before = refl; held-before = refl; read-after = refl };
+    }
+
+-- the array of the scenes is one of 16,384
+bench-whole : length bench ≡ 16384
+unfolding bench
+bench-whole =
+    let blank : List ℕ = replicate 16384 0xff in
+    length-set (set blank 0x0000 0x00) 0x3fff 0xa5 ∙ length-set blank 0x0000 0x00 ∙ length-replicate {A = ℕ} 16384 0xff
+
+-- bytes
+bench-bytes : Bytes bench
+unfolding bench
+bench-bytes =
+    set-bytes (set (replicate 16384 0xff) 0x0000 0x00) 0x3fff 0xa5
+    (set-bytes (replicate 16384 0xff) 0x0000 0x00 (same-bytes 16384 0xff (omega arith)) (omega arith))
+    (omega arith)
+
+-- a chip with any register byte is one run from power-up
+registered-up : (byte : ℕ) → FromPowerUp (registered byte)
+registered-up byte =
+    record {
+      part = 0;
+      select = 5;
+      array = bench;
+      run = registerSet 5 high byte;
+      part-in = omega arith;
+      select-in = omega arith;
+      array-whole = bench-whole;
+      array-bytes = bench-bytes;
+      after-run = refl;
+    }
+
+-- the worked run meets all that demand 3 takes
+pub witness : FromPowerUp protected × Protected worked protected
+witness = (
+  registered-up 0x9a,
+  record {
+    ppen-set = computed .ppen;
+    region-locked = λ e. absurd (omega (arith, computed .bl));
+    pin-high = computed .pins;
+    address-in = omega arith;
+    stays-locked = λ k l. rw (computed .first) (leb·zero ((0x3fff + k) % 0x4000));
+  },
+)
+
+-- so it has all that demand 3 promises
+pub worked-promised : Promised worked protected
+worked-promised = demand-3 worked protected (witness .0) (witness .1)
+
+-- it takes all ten pulses, and reads A5h and over the roll-over 00h
+pub worked-comes-out : (free worked protected .pulses ≡ 10) × (bytesRead 2 (heard worked protected) ≡ 0xa5 ∷ 0x00 ∷ [])
+worked-comes-out = (computed .pulses, computed .back)
+
+-- with PPEN clear a locked byte is lost, though the pin is high in every sample: 00h becomes 55h
+pub ppen-needed : FromPowerUp unprotected
+    × (unprotected .chip .register .ppen ≡ false)
+    × (pinsHigh (attacked high .noise) ≡ true)
+    × Lost (attacked high) unprotected 0x00 0x55
+ppen-needed = (registered-up 0x1a, computed .no-ppen, computed .attack-pins, computed .no-ppen-lost)
+
+-- with PPEN set a locked byte is lost if the pin is low in one sample
+pub pin-needed : FromPowerUp protected
+    × (protected .chip .register .ppen ≡ true)
+    × (lows (attacked lowAtStop .noise) ≡ 1)
+    × Lost (attacked lowAtStop) protected 0x00 0x55
+pin-needed = (registered-up 0x9a, computed .ppen, computed .low-pins, computed .low-lost)

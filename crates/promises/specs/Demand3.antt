@@ -1,0 +1,95 @@
+-- Demand 3 of the workshop, part by part: the chip that it takes, what comes to that chip, and what it promises.
+--
+-- | Name | Meaning |
+-- |---|---|
+-- | `FromPowerUp` | a chip run from power-up |
+-- | `Scene` | what comes to a chip: the noise, the pin levels, the read; all of it is arbitrary |
+-- | `noisy`, `done` | a chip and its array after the noise; after one program-done more |
+-- | `free`, `started` | pulsed until the line is high; with the start made there |
+-- | `heard` | the line after each event of the random read |
+-- | `Protected` | what the sentence takes of the chip and the scene |
+-- | `Promised` | what it promises of them |
+use Prim.Native.Nat.{ℕ, _+_, _%_, _≤_, _<_}
+use mathlib.Core.Bool.{Bool, true}
+use mathlib.Core.List.{List, map}
+use mathlib.Core.Path.{_≡_}
+use lib.ListN.{length}
+use Rattle.chip.specs.Chip.{newChip}
+use Rattle.chip.specs.Run.{World, world, step, ran, lines}
+use Rattle.chip.specs.Stop.{locked}
+use Rattle.chip.specs.View.{pinsHigh}
+use Rattle.chip.specs.declared.wire.Event.{Event}
+use Rattle.chip.specs.declared.wire.Event.the-variants.{ProgramDone}
+use Rattle.recovery.specs.Pulses.{FirstHigh, Unchanged, SeesStart}
+use Rattle.recovery.specs.Recovery.{Freed, freed, recovered, recoveryAnswer, recoveryArray}
+use Rattle.promises.specs.RandomRead.{randomRead, pinned, Acknowledged, Bytes, bitsOf, bitsRead, bytesRead, held}
+
+-- a new chip of either part with any select, any array of 16,384 bytes, and whatever events came since
+pub record FromPowerUp (w : World) : Type 0 where
+  pub part : ℕ
+  pub select : ℕ
+  pub array : List ℕ
+  pub run : List Event
+  pub part-in : part ≤ 1
+  pub select-in : select ≤ 7
+  pub array-whole : length array ≡ 16384
+  pub array-bytes : Bytes array
+  pub after-run : w ≡ ran run (world (newChip part select) array)
+
+-- none of it is bound to the chip
+pub record Scene : Type 0 where
+  pub noise : List Event
+  -- the pin in the recovery, and in each sample of the read
+  pub pin : Bool
+  pub pins : ℕ → Bool
+  -- where the read begins, and how many bytes it takes
+  pub address : ℕ
+  pub n : ℕ
+
+-- any events
+abbrev pub noisy : Scene → World → World
+noisy s w = ran (s .noise) w
+
+-- a cycle that the noise began is over
+abbrev pub done : Scene → World → World
+done s w = step ProgramDone (noisy s w)
+
+-- clock pulses with the data line let go
+abbrev pub free : Scene → World → Freed
+free s w = freed (s .pin) (done s w)
+
+-- made at the first high pulse
+abbrev pub started : Scene → World → World
+started s w = recovered (s .pin) (done s w)
+
+-- from that start on, at the chip's own select
+abbrev pub heard : Scene → World → List Bool
+heard s w = lines (pinned (s .pins) (randomRead (w .chip .select) (s .address) (s .n))) (started s w)
+
+-- the chip before the noise, the noise, and where the read goes
+pub record Protected (s : Scene) (w : World) : Type 0 where
+  -- the chip is hardware-protected, and a region of it is locked
+  pub ppen-set : w .chip .register .ppen ≡ true
+  pub region-locked : w .chip .register .bl ≡ 0 → ⊥
+  -- no sample of the noise has the pin low; power-ups and program-dones may stand among them
+  pub pin-high : pinsHigh (s .noise) ≡ true
+  -- the read begins in the array, and each address that it comes to, 0000h after 3FFFh, is locked
+  pub address-in : s .address ≤ 0x3fff
+  pub stays-locked : (k : ℕ) → k < s .n → locked (w .chip) true ((s .address + k) % 0x4000) ≡ true
+
+-- the recovery, then the read
+pub record Promised (s : Scene) (w : World) : Type 0 where
+  -- ten pulses are enough to get a high line, and the number reported is that of the first
+  pub line-high : FirstHigh (s .pin) (done s w) (free s w .pulses) (free s w .world)
+  -- the chip sees the start that is made there
+  pub start-seen : SeesStart (started s w .chip)
+  -- recovery leaves every byte of the array and PPEN, BL, RPEL and PEL
+  pub recovery-keeps : Unchanged (done s w) (started s w)
+  -- it is the recovery that the code answers: not refused, with this chip, this number and this array
+  pub code-answers : recoveryAnswer (s .pin) (done s w .chip) (done s w .array) ≡ record { refusal = 0; chip = started s w .chip; pulses = free s w .pulses }
+  pub code-array : recoveryArray (s .pin) (done s w .chip) (done s w .array) ≡ started s w .array
+  -- the chip acknowledges each of the four bytes that the master sends
+  pub acknowledged : Acknowledged (heard s w)
+  -- the line's bits are those of the bytes that stood there before the noise, and make these bytes
+  pub bits : bitsRead (s .n) (heard s w) ≡ map bitsOf (held (w .array) (s .address) (s .n))
+  pub bytes : bytesRead (s .n) (heard s w) ≡ held (w .array) (s .address) (s .n)

@@ -1,0 +1,107 @@
+-- Concrete runs for demand 3: one that meets all that it takes, and two that fail one hypothesis each.
+--
+-- | Name | Meaning |
+-- |---|---|
+-- | `writing` | bytes written from START to STOP, clocked as in case 13 |
+-- | `registerWrite`, `arrayWrite` | a register byte; one byte to an address below 0100h |
+-- | `high`, `lowAtStop` | the pin high in every sample; low in the STOP of a register write alone |
+-- | `registerSet` | PEL, RPEL, then a register byte and its cycle |
+-- | `attack` | a register byte that clears PPEN and BL, then 55h to address 0000h and its cycle |
+-- | `cutRead` | a slave byte with read, cut with SCL low in its acknowledge |
+-- | `bench` | an array of FFh with 00h at its first address and A5h at its last |
+-- | `registered`, `protected`, `unprotected` | a chip with a register byte, run from power-up; PPEN 1 and BL 3; PPEN 0 and BL 3 |
+-- | `worked` | the attack with the pin high, a power-up and a cut read; two bytes read over the roll-over |
+-- | `attacked` | the attack with these pins in its register byte; one byte read |
+-- | `lows` | how many samples have the pin low |
+-- | `Lost` | a byte was locked before the noise, and the read returns another |
+use Prim.Native.Nat.{ℕ, _+_}
+use mathlib.Core.Bool.{Bool, true, false, not, cond}
+use mathlib.Core.List.{List, [], _∷_, _++_}
+use mathlib.Core.Path.{_≡_}
+use lib.Dec.{eqb}
+use lib.ListN.{set, replicate}
+use Rattle.chip.specs.Chip.{newChip}
+use Rattle.chip.specs.Run.{World, world, ran}
+use Rattle.chip.specs.Stop.{locked}
+use Rattle.chip.specs.View.{pinHigh}
+use Rattle.chip.specs.declared.wire.Event.{Event}
+use Rattle.chip.specs.declared.wire.Event.the-variants.{ProgramDone, PowerUp}
+use Rattle.promises.specs.Demand3.{Scene, heard}
+use Rattle.promises.specs.RandomRead.{Wires, wiresOf, clocks, bitsOf, byteSent, slaveByte, pinned, bytesRead, held}
+
+-- a START and a STOP as event bytes, four bytes between them
+unfoldable pub writing : ℕ → ℕ → ℕ → ℕ → List Wires
+writing select first second byte =
+    (wiresOf 3 ∷ wiresOf 1 ∷ [])
+    ++ byteSent (slaveByte select false)
+    ++ byteSent first
+    ++ byteSent second
+    ++ byteSent byte
+    ++ (wiresOf 0 ∷ wiresOf 1 ∷ wiresOf 3 ∷ [])
+
+-- the address FFFFh is the register's
+abbrev pub registerWrite : ℕ → ℕ → List Wires
+registerWrite select byte = writing select 0xff 0xff byte
+
+-- the high address byte is 0
+abbrev pub arrayWrite : ℕ → ℕ → ℕ → List Wires
+arrayWrite select address byte = writing select 0x00 address byte
+
+-- the pin high in every sample
+abbrev pub high : ℕ → Bool
+high k = true
+
+-- a register write has 77 samples, its STOP the last
+abbrev pub lowAtStop : ℕ → Bool
+lowAtStop k = not (eqb k 76)
+
+-- 02h sets PEL, 06h RPEL; then the register byte, with these pins, and its cycle
+unfoldable pub registerSet : ℕ → (ℕ → Bool) → ℕ → List Event
+registerSet select pins byte =
+    pinned high (registerWrite select 0x02)
+    ++ pinned high (registerWrite select 0x06)
+    ++ pinned pins (registerWrite select byte)
+    ++ (ProgramDone ∷ [])
+
+-- 02h as a register byte is PPEN 0 and BL 0
+unfoldable pub attack : ℕ → (ℕ → Bool) → List Event
+attack select pins = registerSet select pins 0x02 ++ pinned high (arrayWrite select 0x00 0x55) ++ (ProgramDone ∷ [])
+
+-- case 11's cut: eight bits, and the low half of the ninth clock
+unfoldable pub cutRead : ℕ → List Event
+cutRead select = pinned high ((wiresOf 3 ∷ wiresOf 1 ∷ []) ++ clocks (bitsOf (slaveByte select true)) ++ (wiresOf 2 ∷ []))
+
+-- an array of 16,384 bytes
+unfoldable pub bench : List ℕ
+bench = set (set (replicate 16384 0xff) 0x0000 0x00) 0x3fff 0xa5
+
+-- an X24128 at select 5 with this register byte, run from power-up
+abbrev pub registered : ℕ → World
+registered byte = ran (registerSet 5 high byte) (world (newChip 0 5) bench)
+
+-- 9Ah is PPEN 1 and BL 3
+abbrev pub protected : World
+protected = registered 0x9a
+
+-- 1Ah is PPEN 0 and BL 3
+abbrev pub unprotected : World
+unprotected = registered 0x1a
+
+-- the attack with the pin high, a power-up, a cut read; then two bytes from 3FFFh
+abbrev pub worked : Scene
+worked = record { noise = attack 5 high ++ (PowerUp ∷ []) ++ cutRead 5; pin = false; pins = λ k. false; address = 0x3fff; n = 2 }
+
+-- the attack alone, with these pins in its register byte; then the byte at 0000h
+abbrev pub attacked : (ℕ → Bool) → Scene
+attacked pins = record { noise = attack 5 pins; pin = true; pins = high; address = 0x0000; n = 1 }
+
+-- the samples with the pin low, counted
+unfoldable pub lows : List Event → ℕ
+lows [] = 0
+lows (e ∷ es) = cond (pinHigh e) 0 1 + lows es
+
+-- the byte at the scene's address was locked and held `kept`, and the read returns `read`
+pub record Lost (s : Scene) (w : World) (kept read : ℕ) : Type 0 where
+  pub locked-before : locked (w .chip) true (s .address) ≡ true
+  pub held-before : held (w .array) (s .address) 1 ≡ kept ∷ []
+  pub read-after : bytesRead 1 (heard s w) ≡ read ∷ []
