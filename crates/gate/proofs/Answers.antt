@@ -1,0 +1,111 @@
+-- What the answer of reading says of the bytes: a good record passes every check, and bytes that pass every check are a good record.
+-- Assumes nothing.
+use mathlib.Core.Path.{_≡_, refl}
+use mathlib.Core.Bool.{Bool, true, false, cond, not}
+use mathlib.Core.List.{List, [], _∷_}
+use mathlib.Core.Logic.{⊎-elim}
+use Prim.Native.Nat.{ℕ, _≤_}
+use native.Mathlib.Omega.{arith}
+use borrow.Author.Tests.{eqb-true, eq-eqb, leb-true, not-false}
+use lib.Dec.{eqb, leb}
+use lib.IntN.{ℤ}
+use lib.ListN.{length, take}
+use types.Run.{OneOf}
+use denote.Enum.Declared.{tagOf}
+use Rattle.gate.specs.Label.{isLabel, all}
+use Rattle.gate.specs.Form.{total}
+use Rattle.gate.specs.Reading.{closedAt, openedAt, stateAt, lengthAt, labelAt, paddingAt, sumAt, isFree, labelFits, limitsFit, goodOf, heldOf, readOf}
+use Rattle.gate.specs.Naming.{ownLength}
+use Rattle.gate.specs.declared.answer.Read.{Read}
+use Rattle.gate.specs.declared.answer.Read.the-variants.{Good, Free, Refused}
+use Rattle.gate.proofs.answer.Read.{the-type}
+use Rattle.gate.proofs.Truth.{and-left, and-right}
+
+-- the checks of reading, all passed
+pub record Passed (bytes : List ℕ) : Type 0 where
+  pub sized : length bytes ≡ 32
+  pub used : isFree bytes ≡ false
+  pub state : stateAt bytes ≡ 0xa5
+  pub summed : sumAt bytes ≡ total (take 30 bytes)
+  pub labelled : labelFits bytes ≡ true
+  pub limited : limitsFit (closedAt bytes) (openedAt bytes) ≡ true
+
+module _ {c o t : ℤ} {n : ℕ} where
+  refused-good : (k : ℕ) → Refused k ≡ Good c o t n → ⊥
+  refused-good k e = let z : _≡_ {A = ℕ} 0 1 = cc in omega arith
+
+  free-good : Free ≡ Good c o t n → ⊥
+  free-good e = let z : _≡_ {A = ℕ} 0 1 = cc in omega arith
+
+  past : (b : Bool) (x y : Read) → (x ≡ Good c o t n → ⊥) → cond b x y ≡ Good c o t n → (b ≡ false) × (y ≡ Good c o t n)
+  past true x y never e = absurd (never e)
+  past false x y never e = (refl, e)
+
+  held-good : (bytes : List ℕ) → heldOf bytes ≡ Good c o t n → (limitsFit (closedAt bytes) (openedAt bytes) ≡ true) × (goodOf bytes ≡ Good c o t n)
+  unfolding heldOf
+  held-good bytes e =
+      let p = past (not (limitsFit (closedAt bytes) (openedAt bytes))) (Refused 14) (goodOf bytes) (refused-good 14) e in
+      (not-false _ (p .0), p .1)
+
+  -- a good record has passed, and gives what its bytes hold
+  pub good-passed : (bytes : List ℕ) → readOf bytes ≡ Good c o t n → Passed bytes × (goodOf bytes ≡ Good c o t n)
+  unfolding readOf
+  good-passed bytes e =
+      let p7 = past (not (eqb (length bytes) 32)) (Refused 7) _ (refused-good 7) e in
+      let free = past (isFree bytes) Free _ free-good (p7 .1) in
+      let p12 = past (not (eqb (stateAt bytes) 0xa5)) (Refused 12) _ (refused-good 12) (free .1) in
+      let p13 = past (not (eqb (sumAt bytes) (total (take 30 bytes)))) (Refused 13) _ (refused-good 13) (p12 .1) in
+      let p14 = past (not (labelFits bytes)) (Refused 14) _ (refused-good 14) (p13 .1) in
+      let held = held-good bytes (p14 .1) in (
+        record {
+          sized = eqb-true (length bytes) 32 (not-false _ (p7 .0));
+          used = free .0;
+          state = eqb-true (stateAt bytes) 0xa5 (not-false _ (p12 .0));
+          summed = eqb-true (sumAt bytes) (total (take 30 bytes)) (not-false _ (p13 .0));
+          labelled = not-false _ (p14 .0);
+          limited = held .0;
+        },
+        held .1,
+      )
+
+-- bytes that pass are a good record
+pub passed-good : (bytes : List ℕ) → Passed bytes → readOf bytes ≡ goodOf bytes
+unfolding readOf heldOf
+passed-good bytes p =
+    rw (
+      eq-eqb (length bytes) 32 (p .sized),
+      p .used,
+      eq-eqb (stateAt bytes) 0xa5 (p .state),
+      eq-eqb (sumAt bytes) (total (take 30 bytes)) (p .summed),
+      p .labelled,
+      p .limited,
+    )
+
+module _ (bytes : List ℕ) (fits : labelFits bytes ≡ true) where
+  -- the stored length is at most 24
+  pub fits-length : lengthAt bytes ≤ 24
+  unfolding labelFits
+  fits-length = leb-true (lengthAt bytes) 24 (and-left _ _ fits)
+
+  -- the label holds label bytes
+  pub fits-label : isLabel (labelAt bytes) ≡ true
+  unfolding labelFits
+  fits-label = and-left _ _ (and-right (leb (lengthAt bytes) 24) _ fits)
+
+  -- the padding holds spaces
+  pub fits-padding : all 0x20 (paddingAt bytes) ≡ true
+  unfolding labelFits
+  fits-padding = and-right (isLabel (labelAt bytes)) _ (and-right (leb (lengthAt bytes) 24) _ fits)
+
+-- the length that a good record gives is at most 24, of 32 bytes
+pub good-length : {c o t : ℤ} {n : ℕ} (bytes : List ℕ) → readOf bytes ≡ Good c o t n → (length bytes ≡ 32) × (n ≤ 24)
+good-length {c} {o} {t} {n} bytes e =
+    let p = good-passed bytes e in
+    let same : lengthAt bytes ≡ n = cc (p .1) in
+    (p .0 .sized, rw same at (fits-length bytes (p .0 .labelled)))
+
+-- an answer that is not good shows nothing of the record
+pub not-good : (bytes : List ℕ) (r : Read) → OneOf (1 ∷ 2 ∷ []) (tagOf the-type r) → ownLength bytes r ≡ 0
+not-good bytes (Good c o t n) k = absurd (⊎-elim (λ e. omega arith) (λ e. omega arith) k)
+not-good bytes Free k = refl
+not-good bytes (Refused j) k = refl

@@ -1,0 +1,51 @@
+-- Laws of label bytes and of the label's padding.
+-- Assumes nothing.
+use mathlib.Core.Path.{_≡_, refl, ap, _∙_}
+use mathlib.Core.Bool.{Bool, true, false, and-false}
+use mathlib.Core.List.{List, [], _∷_}
+use Prim.Native.Nat.{ℕ, zero, suc, _<_}
+use native.Mathlib.Nat.{not-suc-le-zero, le-of-suc-le-suc}
+use native.Mathlib.Omega.{arith}
+use borrow.Author.Tests.{eqb-true, eq-eqb, leb-true}
+use lib.Dec.{eqb, leb}
+use lib.ListN.{length, getD, replicate}
+use Rattle.gate.specs.Label.{every, labelByte, isLabel, all}
+use Rattle.gate.proofs.Truth.{and-left, and-right}
+
+-- a space may stand in a label
+pub label-space : labelByte 0x20 ≡ true
+unfolding labelByte
+label-space = refl
+
+-- FFh may not
+pub label-erased : labelByte 0xff ≡ false
+unfolding labelByte
+label-erased = refl
+
+-- what may stand in a label is a byte
+pub label-fits : (b : ℕ) → labelByte b ≡ true → b < 0x100
+unfolding labelByte
+label-fits b e = omega (arith, leb-true b 0x7e (and-right (leb 0x20 b) (leb b 0x7e) e))
+
+-- a label that is not empty is never all FFh
+pub no-erased-label : (n : ℕ) → isLabel (replicate (suc n) 0xff) ≡ false
+no-erased-label n = rw label-erased
+
+-- one byte that fails is enough, wherever it stands
+pub every-miss : (test : ℕ → Bool) (s : List ℕ) (i : ℕ) → i < length s → test (getD s i 0) ≡ false → every test s ≡ false
+every-miss test [] i h e = absurd (not-suc-le-zero h)
+every-miss test (b ∷ s) zero h e = rw e
+every-miss test (b ∷ s) (suc i) h e = rw (every-miss test s i (le-of-suc-le-suc h) e) (and-false (test b))
+
+-- so many equal bytes are all that byte
+pub all-replicate : (n b : ℕ) → all b (replicate n b) ≡ true
+all-replicate zero b = refl
+all-replicate (suc n) b = rw (eq-eqb b b refl) (all-replicate n b)
+
+-- and bytes that are all that byte are so many of it
+pub replicate-all : (b : ℕ) (s : List ℕ) → all b s ≡ true → s ≡ replicate (length s) b
+replicate-all b [] e = refl
+replicate-all b (x ∷ s) e =
+    let same = eqb-true x b (and-left (eqb x b) (all b s) e) in
+    let rest = replicate-all b s (and-right (eqb x b) (all b s) e) in
+    ap (λ (y : ℕ). y ∷ s) same ∙ ap (λ (l : List ℕ). b ∷ l) rest

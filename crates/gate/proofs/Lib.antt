@@ -1,0 +1,16 @@
+pub mod Truth
+pub mod Numbers
+pub mod Walks
+pub mod Answers
+pub mod Names
+pub mod Writes
+pub mod Build
+pub mod Labels
+pub mod Records
+pub mod RoundTrip
+pub mod Outcomes
+pub mod Beside
+pub mod OneAnswer
+pub mod Trimming
+pub mod Given
+pub mod Witness

@@ -1,0 +1,142 @@
+-- Writing and reading undo each other on all good records.
+-- Assumes nothing.
+use mathlib.Core.Path.{_≡_, refl, sym, ap, _∙_}
+use mathlib.Core.Bool.{true, _&&_}
+use mathlib.Core.List.{List, [], _∷_, _++_}
+use Prim.Native.Nat.{ℕ, zero, suc, _+_, _-_, _≤_, _<_}
+use native.Mathlib.Omega.{arith}
+use borrow.Author.Tests.{ltb-true, not-true}
+use lib.Dec.{ltb}
+use lib.IntN.{ℤ}
+use lib.ListN.{length, getD, take, drop, replicate, length-take, length-drop, take-append-drop, drop-of-length-le}
+use lib.Seq.{take-add, drop-drop, drop-cons}
+use Rattle.gate.specs.Limit.{inRange, bits16, signed16, bytes16, pair, travelOf}
+use Rattle.gate.specs.Label.{every}
+use Rattle.gate.specs.Form.{total, headOf, bodyOf, recordOf}
+use Rattle.gate.specs.Writing.{writeOf, writtenOf}
+use Rattle.gate.specs.Reading.{closedAt, openedAt, lengthAt, labelAt, paddingAt, limitsFit, readOf}
+use Rattle.gate.specs.declared.answer.Read.the-variants.{Good}
+use Rattle.gate.proofs.Truth.{and-left, and-right}
+use Rattle.gate.proofs.Numbers.{bits-signed, bytes-pair}
+use Rattle.gate.proofs.Labels.{replicate-all}
+use Rattle.gate.proofs.Answers.{Passed, good-passed, fits-length, fits-label, fits-padding}
+use Rattle.gate.proofs.Writes.{Writable, accepted, accepts, written-good}
+use Rattle.gate.proofs.Records.{record-label, record-read}
+
+module _ (buffer : List ℕ) (closed opened : ℤ) (label : List ℕ) (taken : writeOf buffer closed opened label ≡ 0) where
+  -- what was written is read back: both limits, the travel and the length
+  pub written-read : readOf (writtenOf buffer closed opened label) ≡ Good closed opened (travelOf closed opened) (length label)
+  written-read =
+      rw (written-good buffer closed opened label taken)
+      (record-read closed opened label (accepted buffer closed opened label taken .1))
+
+  -- and so are the label's bytes
+  pub written-label : take (length label) (drop 6 (writtenOf buffer closed opened label)) ≡ label
+  unfolding recordOf
+  written-label =
+      rw (written-good buffer closed opened label taken)
+      (record-label closed opened label (accepted buffer closed opened label taken .1))
+
+-- the first six of 32 bytes
+six : (s : List ℕ) → 6 ≤ length s → take 6 s ≡ getD s 0 0 ∷ getD s 1 0 ∷ getD s 2 0 ∷ getD s 3 0 ∷ getD s 4 0 ∷ getD s 5 0 ∷ []
+six [] h = absurd (omega arith)
+six (a ∷ []) h = absurd (omega arith)
+six (a ∷ b ∷ []) h = absurd (omega arith)
+six (a ∷ b ∷ c ∷ []) h = absurd (omega arith)
+six (a ∷ b ∷ c ∷ d ∷ []) h = absurd (omega arith)
+six (a ∷ b ∷ c ∷ d ∷ e ∷ []) h = absurd (omega arith)
+six (a ∷ b ∷ c ∷ d ∷ e ∷ f ∷ s) h = refl
+
+-- the last two of them
+last-two : (s : List ℕ) → length s ≡ 32 → drop 30 s ≡ getD s 30 0 ∷ getD s 31 0 ∷ []
+last-two s h =
+    drop-cons s 30 0 (omega arith)
+    ∙ ap (λ (t : List ℕ). getD s 30 0 ∷ t)
+    (drop-cons s 31 0 (omega arith) ∙ ap (λ (t : List ℕ). getD s 31 0 ∷ t) (drop-of-length-le s {i = 32} (omega arith)))
+
+-- two bytes are those of the limit that they stand for
+limit-bytes : (high low : ℕ) → high < 0x100 → low < 0x100 → bytes16 (bits16 (signed16 (pair high low))) ≡ high ∷ low ∷ []
+limit-bytes high low h l = ap bytes16 (bits-signed (pair high low) (omega arith)) ∙ bytes-pair high low l
+
+module _ (bytes : List ℕ) (p : Passed bytes) where
+  -- the label is as long as it says, and its padding fills its places
+  label-size : length (labelAt bytes) ≡ lengthAt bytes
+  label-size =
+      let size = p .sized in
+      let short = fits-length bytes (p .labelled) in
+      simp (length-take, length-drop) (omega arith)
+
+  padding-size : length (paddingAt bytes) ≡ 24 - lengthAt bytes
+  padding-size =
+      let size = p .sized in
+      let short = fits-length bytes (p .labelled) in
+      simp (length-take, length-drop) (omega arith)
+
+  -- a good record can be written
+  passed-writable : Writable (closedAt bytes) (openedAt bytes) (labelAt bytes)
+  unfolding limitsFit
+  passed-writable =
+      let inside = and-left (inRange (closedAt bytes) && inRange (openedAt bytes)) _ (p .limited) in
+      record {
+        short = rw label-size (fits-length bytes (p .labelled));
+        clean = fits-label bytes (p .labelled);
+        low = and-left (inRange (closedAt bytes)) _ inside;
+        high = and-right (inRange (closedAt bytes)) _ inside;
+        apart = not-true _ (and-right (inRange (closedAt bytes) && inRange (openedAt bytes)) _ (p .limited));
+      }
+
+  -- the 24 places of the label are the label and spaces
+  places : labelAt bytes ++ replicate (24 - lengthAt bytes) 0x20 ≡ take 24 (drop 6 bytes)
+  places =
+      let n = lengthAt bytes in
+      let short = fits-length bytes (p .labelled) in
+      let all24 : n + (24 - n) ≡ 24 = omega arith in
+      let spaces = replicate-all 0x20 (paddingAt bytes) (fits-padding bytes (p .labelled)) ∙ ap (λ (k : ℕ). replicate k 0x20) padding-size in
+      ap (λ (l : List ℕ). labelAt bytes ++ l) (sym spaces ∙ ap (take (24 - n)) (sym (drop-drop n 6 bytes)))
+      ∙ sym (take-add n (24 - n) (drop 6 bytes))
+      ∙ ap (λ (k : ℕ). take k (drop 6 bytes)) all24
+
+  module _ (fit : (k : ℕ) → getD bytes k 0 < 0x100) where
+    -- the first six bytes are the head of what was read
+    head : headOf (closedAt bytes) (openedAt bytes) (lengthAt bytes) ≡ take 6 bytes
+    head =
+        let at : ℕ → ℕ = λ k. getD bytes k 0 in
+        let size = p .sized in
+        ap (λ (l : List ℕ). l ++ (bytes16 (bits16 (openedAt bytes)) ++ (0xa5 ∷ [])) ++ (at 5 ∷ [])) (limit-bytes (at 0) (at 1) (fit 0) (fit 1))
+        ∙ ap (λ (l : List ℕ). at 0 ∷ at 1 ∷ (l ++ (0xa5 ∷ []) ++ (at 5 ∷ []))) (limit-bytes (at 2) (at 3) (fit 2) (fit 3))
+        ∙ ap (λ (b : ℕ). at 0 ∷ at 1 ∷ at 2 ∷ at 3 ∷ b ∷ at 5 ∷ []) (sym (p .state))
+        ∙ sym (six bytes (omega arith))
+
+    -- the first thirty its body
+    body : bodyOf (closedAt bytes) (openedAt bytes) (labelAt bytes) ≡ take 30 bytes
+    body =
+        rw label-size
+        (ap (λ (l : List ℕ). l ++ (labelAt bytes ++ replicate (24 - lengthAt bytes) 0x20)) head
+        ∙ ap (λ (l : List ℕ). take 6 bytes ++ l) places
+        ∙ sym (take-add 6 24 bytes))
+
+    -- and what is written of it is the record itself
+    passed-record : recordOf (closedAt bytes) (openedAt bytes) (labelAt bytes) ≡ bytes
+    unfolding recordOf
+    passed-record =
+        ap (λ (b : List ℕ). b ++ bytes16 (total b)) body
+        ∙ ap (λ (s : ℕ). take 30 bytes ++ bytes16 s) (sym (p .summed))
+        ∙ ap (λ (l : List ℕ). take 30 bytes ++ l) (bytes-pair (getD bytes 30 0) (getD bytes 31 0) (fit 31) ∙ sym (last-two bytes (p .sized)))
+        ∙ take-append-drop 30 bytes
+
+-- numbers that pass the test of a byte are below 100h, wherever one looks
+pub bytes-below : (s : List ℕ) → every (λ b. ltb b 0x100) s ≡ true → (k : ℕ) → getD s k 0 < 0x100
+bytes-below [] e k = omega arith
+bytes-below (b ∷ s) e zero = ltb-true b 0x100 (and-left (ltb b 0x100) _ e)
+bytes-below (b ∷ s) e (suc k) = bytes-below s (and-right (ltb b 0x100) _ e) k
+
+-- what is read of a good record can be written into any 32 bytes, and gives the same bytes
+pub read-written : {closed opened travel : ℤ} {n : ℕ} (bytes : List ℕ) → ((k : ℕ) → getD bytes k 0 < 0x100) → readOf bytes ≡ Good closed opened travel n → (buffer : List ℕ) → length buffer ≡ 32 → (writeOf buffer closed opened (take n (drop 6 bytes)) ≡ 0) × (writtenOf buffer closed opened (take n (drop 6 bytes)) ≡ bytes)
+read-written {closed} {opened} {travel} {n} bytes fit good buffer size =
+    let p = good-passed bytes good in
+    let c : closedAt bytes ≡ closed = cc (p .1) in
+    let o : openedAt bytes ≡ opened = cc (p .1) in
+    let l : lengthAt bytes ≡ n = cc (p .1) in
+    let none = accepts buffer (closedAt bytes) (openedAt bytes) (labelAt bytes) size (passed-writable bytes (p .0)) in
+    let same = written-good buffer (closedAt bytes) (openedAt bytes) (labelAt bytes) none ∙ passed-record bytes (p .0) fit in
+    (rw (c, o, l) at none, rw (c, o, l) at same)

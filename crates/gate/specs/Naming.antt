@@ -1,0 +1,39 @@
+-- The name shown: which of the two lent slices it lies in, where, and its bytes ("Gate records").
+--
+-- | Name | Meaning |
+-- |---|---|
+-- | `ownLength` | how many bytes of the record's label are shown, 0 where none is |
+-- | `placeOf` | where the name lies |
+-- | `partOf` | the bytes at such a place |
+-- | `nameOf` | the name shown |
+use Prim.Native.Nat.{ℕ}
+use mathlib.Core.Bool.{true, false, cond}
+use mathlib.Core.List.{List}
+use lib.Dec.{eqb}
+use lib.ListN.{length, take, drop}
+use Rattle.gate.specs.Label.{trimmedLength}
+use Rattle.gate.specs.Reading.{readOf}
+use Rattle.gate.specs.declared.answer.Read.{Read}
+use Rattle.gate.specs.declared.answer.Read.the-variants.{Good, Free, Refused}
+use Rattle.gate.specs.declared.answer.Shown.{Shown}
+
+-- "Gate records": the record's label without its trailing spaces; none where the record is free or refused
+abbrev pub ownLength : List ℕ → Read → ℕ
+ownLength bytes (Good c o t n) = trimmedLength (take n (drop 6 bytes)) n
+ownLength bytes Free = 0
+ownLength bytes (Refused k) = 0
+
+-- "Gate records": that label, or the standard label, whole, where there is none or it is blank
+unfoldable pub placeOf : List ℕ → List ℕ → Shown
+placeOf bytes standard =
+    cond (eqb (ownLength bytes (readOf bytes)) 0)
+    (record { own = false; start = 0; len = length standard })
+    (record { own = true; start = 6; len = ownLength bytes (readOf bytes) })
+
+-- "Gate records": a part of one of two lent slices
+abbrev pub partOf : Shown → List ℕ → List ℕ → List ℕ
+partOf shown bytes standard = take (shown .len) (drop (shown .start) (cond (shown .own) bytes standard))
+
+-- "Gate records": the name shown
+abbrev pub nameOf : List ℕ → List ℕ → List ℕ
+nameOf bytes standard = partOf (placeOf bytes standard) bytes standard

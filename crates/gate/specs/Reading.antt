@@ -1,0 +1,82 @@
+-- Reading a record: what stands where, and the refusals in their order ("Refusals and what they return", "Gate records").
+--
+-- | Name | Meaning |
+-- |---|---|
+-- | `closedAt`, `openedAt` | the limits that bytes 0–3 stand for |
+-- | `stateAt`, `lengthAt`, `sumAt` | the state byte, the label length and the sum, as stored |
+-- | `labelAt`, `paddingAt` | the label, and the rest of its twenty-four places |
+-- | `isFree` | a free record |
+-- | `labelFits` | length, label and padding are as the layout has them |
+-- | `limitsFit` | two limits are in range and not equal |
+-- | `goodOf` | what a good record gives |
+-- | `heldOf` | what a record gives whose label is good |
+-- | `readOf` | what reading answers |
+use Prim.Native.Nat.{ℕ, _+_, _-_}
+use mathlib.Core.Bool.{Bool, cond, not, _&&_}
+use mathlib.Core.List.{List}
+use lib.Dec.{eqb, leb}
+use lib.IntN.{ℤ}
+use lib.ListN.{length, getD, take, drop}
+use Rattle.gate.specs.Limit.{inRange, same, signed16, pair, travelOf}
+use Rattle.gate.specs.Label.{isLabel, all}
+use Rattle.gate.specs.Form.{total}
+use Rattle.gate.specs.declared.answer.Read.{Read}
+use Rattle.gate.specs.declared.answer.Read.the-variants.{Good, Free, Refused}
+
+-- "Gate records": bytes 0–1 closed limit
+abbrev pub closedAt : List ℕ → ℤ
+closedAt bytes = signed16 (pair (getD bytes 0 0) (getD bytes 1 0))
+
+-- "Gate records": 2–3 open limit
+abbrev pub openedAt : List ℕ → ℤ
+openedAt bytes = signed16 (pair (getD bytes 2 0) (getD bytes 3 0))
+
+-- "Gate records": 4 A5h
+abbrev pub stateAt : List ℕ → ℕ
+stateAt bytes = getD bytes 4 0
+
+-- "Gate records": 5 label length
+abbrev pub lengthAt : List ℕ → ℕ
+lengthAt bytes = getD bytes 5 0
+
+-- "Gate records": 6–29 label
+abbrev pub labelAt : List ℕ → List ℕ
+labelAt bytes = take (lengthAt bytes) (drop 6 bytes)
+
+-- "Gate records": padded with 20h
+abbrev pub paddingAt : List ℕ → List ℕ
+paddingAt bytes = take (24 - lengthAt bytes) (drop (6 + lengthAt bytes) bytes)
+
+-- "Gate records": 30–31 sum, high byte first
+abbrev pub sumAt : List ℕ → ℕ
+sumAt bytes = pair (getD bytes 30 0) (getD bytes 31 0)
+
+-- "Gate records": all FFh is a free record
+unfoldable pub isFree : List ℕ → Bool
+isFree bytes = all 0xff bytes
+
+-- "Refusals and what they return", 14: length, label, padding
+unfoldable pub labelFits : List ℕ → Bool
+labelFits bytes = leb (lengthAt bytes) 24 && (isLabel (labelAt bytes) && all 0x20 (paddingAt bytes))
+
+-- "Refusals and what they return", 14: limits (our reading: bad or equal limits, docs/DECISIONS.md)
+unfoldable pub limitsFit : ℤ → ℤ → Bool
+limitsFit closed opened = inRange closed && inRange opened && not (same closed opened)
+
+-- "Gate records": reading a good record gives both limits, the travel and the label length
+abbrev pub goodOf : List ℕ → Read
+goodOf bytes = Good (closedAt bytes) (openedAt bytes) (travelOf (closedAt bytes) (openedAt bytes)) (lengthAt bytes)
+
+-- "Refusals and what they return", 14: the limits, the last that is checked
+unfoldable pub heldOf : List ℕ → Read
+heldOf bytes = cond (not (limitsFit (closedAt bytes) (openedAt bytes))) (Refused 14) (goodOf bytes)
+
+-- "Refusals and what they return": reading checks 7, then free, then 12, 13, 14
+unfoldable pub readOf : List ℕ → Read
+readOf bytes =
+    cond (not (eqb (length bytes) 32)) (Refused 7)
+    (cond (isFree bytes) Free
+    (cond (not (eqb (stateAt bytes) 0xa5)) (Refused 12)
+    (cond (not (eqb (sumAt bytes) (total (take 30 bytes)))) (Refused 13)
+    (cond (not (labelFits bytes)) (Refused 14)
+    (heldOf bytes)))))

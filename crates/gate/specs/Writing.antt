@@ -1,0 +1,29 @@
+-- Writing a record: the refusals in their order, and what the buffer holds afterwards ("Refusals and what they return").
+--
+-- | Name | Meaning |
+-- |---|---|
+-- | `writeOf` | the number that writing answers: the first refusal that applies, or 0 |
+-- | `writtenOf` | what the buffer holds afterwards: the record, or after a refusal what it held |
+use Prim.Native.Nat.{ℕ}
+use mathlib.Core.Bool.{cond, not, _&&_}
+use mathlib.Core.List.{List}
+use lib.Dec.{eqb, ltb}
+use lib.IntN.{ℤ}
+use lib.ListN.{length}
+use Rattle.gate.specs.Limit.{inRange, same}
+use Rattle.gate.specs.Label.{isLabel}
+use Rattle.gate.specs.Form.{recordOf}
+
+-- "Refusals and what they return": writing a record checks 7, 8, 9, 10, 11
+unfoldable pub writeOf : List ℕ → ℤ → ℤ → List ℕ → ℕ
+writeOf buffer closed opened label =
+    cond (not (eqb (length buffer) 32)) 7
+    (cond (ltb 24 (length label)) 8
+    (cond (not (isLabel label)) 9
+    (cond (not (inRange closed && inRange opened)) 10
+    (cond (same closed opened) 11 0))))
+
+-- "Refusals and what they return": no buffer is written
+unfoldable pub writtenOf : List ℕ → ℤ → ℤ → List ℕ → List ℕ
+writtenOf buffer closed opened label =
+    cond (eqb (writeOf buffer closed opened label) 0) (recordOf closed opened label) buffer

@@ -1,0 +1,90 @@
+// Reading a record: the refusals in their order, then what it holds.
+ghost use mathlib.Core.Path.{_≡_};
+ghost use lib.Dec.{eqb};
+ghost use lib.ListN.{length, take};
+ghost use Rattle.gate.specs.Form.{total};
+ghost use Rattle.gate.specs.Reading.{sumAt, labelFits, limitsFit, heldOf, readOf};
+use crate::answer::Read;
+use crate::bytes::all_are;
+use crate::bytes::sum;
+use crate::label::is_label;
+use crate::limits::equal;
+use crate::limits::in_range;
+use crate::limits::limit_of;
+use crate::limits::travel_of;
+
+// Whether the stored sum is that of bytes 0-29.
+fn sum_right(bytes: &[u8]) -> bool
+    requires { ⌜ length (now bytes) ≡ 32 ⌝ }
+    ensures { λ r. ⌜ r ≡ eqb (sumAt (now (bytes .entry))) (total (take 30 (now (bytes .entry)))) ⌝ }
+{
+    let stored = bytes[30] as u16 * 256 + bytes[31] as u16;
+    stored == sum(&bytes[..30])
+}
+
+// Whether length, label and padding are as the layout has them.
+fn label_fits(bytes: &[u8]) -> bool
+    requires { ⌜ length (now bytes) ≡ 32 ⌝ }
+    ensures { λ r. ⌜ r ≡ labelFits (now (bytes .entry)) ⌝ }
+{
+    let n = bytes[5] as usize;
+    if 24 < n {
+        return false;
+    }
+    let end = 6 + n;
+    if !is_label(&bytes[6..end]) {
+        return false;
+    }
+    all_are(&bytes[end..30], 0x20)
+}
+
+// Whether two limits are in range and not equal.
+fn limits_fit(closed: i16, opened: i16) -> bool
+    ensures { λ r. ⌜ r ≡ limitsFit closed opened ⌝ }
+{
+    let from = closed as i32;
+    let to = opened as i32;
+    in_range(from) & in_range(to) & !equal(from, to)
+}
+
+// What a record with a good label holds, or the refusal of its limits.
+fn held(bytes: &[u8]) -> Read
+    requires { ⌜ length (now bytes) ≡ 32 ⌝ }
+    ensures { λ r. ⌜ r ≡ heldOf (now (bytes .entry)) ⌝ }
+{
+    let closed = limit_of(bytes[0], bytes[1]);
+    let opened = limit_of(bytes[2], bytes[3]);
+    if !limits_fit(closed, opened) {
+        return Read::Refused { number: 14 };
+    }
+    let length = bytes[5] as usize;
+    let travel = travel_of(closed, opened);
+    Read::Good {
+        closed,
+        opened,
+        travel,
+        length,
+    }
+}
+
+// What 32 bytes hold as a record; any other number of bytes is refused.
+pub fn read(bytes: &[u8]) -> Read
+    ensures { λ r. ⌜ r ≡ readOf (now (bytes .entry)) ⌝ }
+{
+    if bytes.len() != 32 {
+        return Read::Refused { number: 7 };
+    }
+    if all_are(bytes, 0xff) {
+        return Read::Free;
+    }
+    if bytes[4] != 0xa5 {
+        return Read::Refused { number: 12 };
+    }
+    if !sum_right(bytes) {
+        return Read::Refused { number: 13 };
+    }
+    if !label_fits(bytes) {
+        return Read::Refused { number: 14 };
+    }
+    held(bytes)
+}
