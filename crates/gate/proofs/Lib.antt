@@ -10,7 +10,6 @@ pub mod Records
 pub mod RoundTrip
 pub mod Outcomes
 pub mod Beside
-pub mod OneAnswer
 pub mod Trimming
 pub mod Given
 pub mod Witness

@@ -6,4 +6,3 @@ pub mod Reading
 pub mod Values
 pub mod Naming
 pub mod Outcome
-pub mod Allowed

@@ -22,7 +22,7 @@ use Rattle.trace.specs.Bytes.{eventOf}
 use Rattle.recovery.specs.Recovery.{pulse, pulsed, recovered}
 use Rattle.promises.specs.Demand3.{FromPowerUp, free, heard, Protected, Promised}
 use Rattle.promises.specs.RandomRead.{Bytes, pinned, clocks, byteSent, byteTaken, bytesTaken, randomRead, highs, bitsIn, byteOf, held, bytesRead}
-use Rattle.promises.specs.Runs.{writing, high, lowAtStop, registerSet, attack, cutRead, bench, registered, protected, unprotected, worked, attacked, lows, Lost}
+use Rattle.promises.specs.Runs.{high, lowAtStop, registerSet, attack, cutRead, bench, registered, protected, unprotected, withstood, attacked, lows, Lost}
 use Rattle.promises.proofs.Demand3.{demand-3}
 use Rattle.promises.proofs.Octets.{set-bytes, same-bytes}
 
@@ -43,9 +43,9 @@ record Computed : Type 0 where
   ppen : protected .chip .register .ppen ≡ true
   bl : protected .chip .register .bl ≡ 3
   first : firstLocked (protected .chip .part) (protected .chip .register .bl) ≡ 0
-  pins : pinsHigh (worked .noise) ≡ true
-  pulses : free worked protected .pulses ≡ 10
-  back : bytesRead 2 (heard worked protected) ≡ 0xa5 ∷ 0x00 ∷ []
+  pins : pinsHigh (withstood .noise) ≡ true
+  pulses : free withstood protected .pulses ≡ 10
+  back : bytesRead 2 (heard withstood protected) ≡ 0xa5 ∷ 0x00 ∷ []
   no-ppen : unprotected .chip .register .ppen ≡ false
   attack-pins : pinsHigh (attacked high .noise) ≡ true
   no-ppen-lost : Lost (attacked high) unprotected 0x00 0x55
@@ -54,7 +54,7 @@ record Computed : Type 0 where
 
 -- all of it at once
 computed : Computed
-unfolding ran lines step next nextArray sampled sampledArray reacted reactedArray edgeOf pulls placePulls risen fallIn slaveTaken addressTaken arrayData registerData byteBegun byteEnded stopEffect rightEffect arrayEffect rightly effectMoved effectArray firstLocked written latchWritten lockWritten loaded storedTo pinned clocks byteSent byteTaken bytesTaken randomRead highs bitsIn byteOf held every pinHigh pulse pulsed recovered writing registerSet attack cutRead bench lows
+unfolding ran lines step next nextArray sampled sampledArray reacted reactedArray edgeOf pulls placePulls risen fallIn slaveTaken addressTaken arrayData registerData byteBegun byteEnded stopEffect rightEffect arrayEffect rightly effectMoved effectArray firstLocked written latchWritten lockWritten loaded storedTo pinned clocks byteSent byteTaken bytesTaken randomRead highs bitsIn byteOf held every pinHigh pulse pulsed recovered registerSet attack cutRead bench lows
 computed =
     record {
       ppen = refl;
@@ -100,8 +100,8 @@ registered-up byte =
       after-run = refl;
     }
 
--- the worked run meets all that demand 3 takes
-pub witness : FromPowerUp protected × Protected worked protected
+-- the attack that is withstood meets all that demand 3 takes
+pub witness : FromPowerUp protected × Protected withstood protected
 witness = (
   registered-up 0x9a,
   record {
@@ -114,12 +114,12 @@ witness = (
 )
 
 -- so it has all that demand 3 promises
-pub worked-promised : Promised worked protected
-worked-promised = demand-3 worked protected (witness .0) (witness .1)
+pub attack-promised : Promised withstood protected
+attack-promised = demand-3 withstood protected (witness .0) (witness .1)
 
 -- it takes all ten pulses, and reads A5h and over the roll-over 00h
-pub worked-comes-out : (free worked protected .pulses ≡ 10) × (bytesRead 2 (heard worked protected) ≡ 0xa5 ∷ 0x00 ∷ [])
-worked-comes-out = (computed .pulses, computed .back)
+pub attack-comes-out : (free withstood protected .pulses ≡ 10) × (bytesRead 2 (heard withstood protected) ≡ 0xa5 ∷ 0x00 ∷ [])
+attack-comes-out = (computed .pulses, computed .back)
 
 -- with PPEN clear a locked byte is lost, though the pin is high in every sample: 00h becomes 55h
 pub ppen-needed : FromPowerUp unprotected

@@ -2,15 +2,13 @@
 --
 -- | Name | Meaning |
 -- |---|---|
--- | `writing` | bytes written from START to STOP, clocked as in case 13 |
--- | `registerWrite`, `arrayWrite` | a register byte; one byte to an address below 0100h |
 -- | `high`, `lowAtStop` | the pin high in every sample; low in the STOP of a register write alone |
 -- | `registerSet` | PEL, RPEL, then a register byte and its cycle |
 -- | `attack` | a register byte that clears PPEN and BL, then 55h to address 0000h and its cycle |
 -- | `cutRead` | a slave byte with read, cut with SCL low in its acknowledge |
 -- | `bench` | an array of FFh with 00h at its first address and A5h at its last |
 -- | `registered`, `protected`, `unprotected` | a chip with a register byte, run from power-up; PPEN 1 and BL 3; PPEN 0 and BL 3 |
--- | `worked` | the attack with the pin high, a power-up and a cut read; two bytes read over the roll-over |
+-- | `withstood` | the attack with the pin high, a power-up and a cut read; two bytes read over the roll-over |
 -- | `attacked` | the attack with these pins in its register byte; one byte read |
 -- | `lows` | how many samples have the pin low |
 -- | `Lost` | a byte was locked before the noise, and the read returns another |
@@ -27,25 +25,8 @@ use Rattle.chip.specs.View.{pinHigh}
 use Rattle.chip.specs.declared.wire.Event.{Event}
 use Rattle.chip.specs.declared.wire.Event.the-variants.{ProgramDone, PowerUp}
 use Rattle.promises.specs.Demand3.{Scene, heard}
-use Rattle.promises.specs.RandomRead.{Wires, wiresOf, clocks, bitsOf, byteSent, slaveByte, pinned, bytesRead, held}
-
--- a START and a STOP as event bytes, four bytes between them
-unfoldable pub writing : ℕ → ℕ → ℕ → ℕ → List Wires
-writing select first second byte =
-    (wiresOf 3 ∷ wiresOf 1 ∷ [])
-    ++ byteSent (slaveByte select false)
-    ++ byteSent first
-    ++ byteSent second
-    ++ byteSent byte
-    ++ (wiresOf 0 ∷ wiresOf 1 ∷ wiresOf 3 ∷ [])
-
--- the address FFFFh is the register's
-abbrev pub registerWrite : ℕ → ℕ → List Wires
-registerWrite select byte = writing select 0xff 0xff byte
-
--- the high address byte is 0
-abbrev pub arrayWrite : ℕ → ℕ → ℕ → List Wires
-arrayWrite select address byte = writing select 0x00 address byte
+use Rattle.promises.specs.Messages.{begin, message, registerWrite}
+use Rattle.promises.specs.RandomRead.{wiresOf, clocks, bitsOf, slaveByte, pinned, bytesRead, held}
 
 -- the pin high in every sample
 abbrev pub high : ℕ → Bool
@@ -65,11 +46,11 @@ registerSet select pins byte =
 
 -- 02h as a register byte is PPEN 0 and BL 0
 unfoldable pub attack : ℕ → (ℕ → Bool) → List Event
-attack select pins = registerSet select pins 0x02 ++ pinned high (arrayWrite select 0x00 0x55) ++ (ProgramDone ∷ [])
+attack select pins = registerSet select pins 0x02 ++ pinned high (message select 0x0000 (0x55 ∷ [])) ++ (ProgramDone ∷ [])
 
 -- case 11's cut: eight bits, and the low half of the ninth clock
 unfoldable pub cutRead : ℕ → List Event
-cutRead select = pinned high ((wiresOf 3 ∷ wiresOf 1 ∷ []) ++ clocks (bitsOf (slaveByte select true)) ++ (wiresOf 2 ∷ []))
+cutRead select = pinned high (begin ++ clocks (bitsOf (slaveByte select true)) ++ (wiresOf 2 ∷ []))
 
 -- an array of 16,384 bytes
 unfoldable pub bench : List ℕ
@@ -88,8 +69,8 @@ abbrev pub unprotected : World
 unprotected = registered 0x1a
 
 -- the attack with the pin high, a power-up, a cut read; then two bytes from 3FFFh
-abbrev pub worked : Scene
-worked = record { noise = attack 5 high ++ (PowerUp ∷ []) ++ cutRead 5; pin = false; pins = λ k. false; address = 0x3fff; n = 2 }
+abbrev pub withstood : Scene
+withstood = record { noise = attack 5 high ++ (PowerUp ∷ []) ++ cutRead 5; pin = false; pins = λ k. false; address = 0x3fff; n = 2 }
 
 -- the attack alone, with these pins in its register byte; then the byte at 0000h
 abbrev pub attacked : (ℕ → Bool) → Scene

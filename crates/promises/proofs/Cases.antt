@@ -1,0 +1,34 @@
+-- The worked cases of the paper hold of the definitions, and so do the tests that its errors fail: each list is one computation.
+-- Assumes nothing.
+use lib.Dec.{T}
+use Rattle.parts.specs.Load.{loaded, storedTo}
+use Rattle.parts.specs.Locks.{firstLocked}
+use Rattle.parts.specs.Place.{placeFits, placePulls, risen}
+use Rattle.parts.specs.Register.{latchWritten, lockWritten, written}
+use Rattle.chip.specs.Chip.{chipFits, pulls}
+use Rattle.chip.specs.Event.{reacted, reactedArray, sampled, sampledArray, next, nextArray, refusal}
+use Rattle.chip.specs.Run.{step, noteOf, ran, lines, notes}
+use Rattle.chip.specs.Stop.{rightly, arrayEffect, rightEffect, stopEffect, effectMoved, effectArray}
+use Rattle.chip.specs.Transfer.{slaveTaken, addressTaken, arrayData, registerData, byteBegun, byteEnded, fallIn}
+use Rattle.chip.specs.Wire.{edgeOf}
+use Rattle.recovery.specs.Recovery.{pulse, pulsed, recovered, recoveryAnswer}
+use Rattle.gate.specs.Limit.{inRange, same, bits16, signed16}
+use Rattle.gate.specs.Label.{labelByte}
+use Rattle.gate.specs.Form.{recordOf}
+use Rattle.gate.specs.Writing.{writeOf, writtenOf}
+use Rattle.gate.specs.Reading.{isFree, labelFits, limitsFit, heldOf, readOf}
+use Rattle.promises.specs.RandomRead.{byteSent, clocks, bytesTaken, byteTaken, randomRead, highs, bitsIn, byteOf}
+use Rattle.promises.specs.Cases.{holds, worked, errors}
+
+-- both lists, computed
+computed : T (holds worked) × T (holds errors)
+unfolding loaded storedTo firstLocked placeFits placePulls risen latchWritten lockWritten written chipFits pulls reacted reactedArray sampled sampledArray next nextArray refusal step noteOf ran lines notes rightly arrayEffect rightEffect stopEffect effectMoved effectArray slaveTaken addressTaken arrayData registerData byteBegun byteEnded fallIn edgeOf pulse pulsed recovered recoveryAnswer inRange same bits16 signed16 labelByte recordOf writeOf writtenOf isFree labelFits limitsFit heldOf readOf byteSent clocks bytesTaken byteTaken randomRead highs bitsIn byteOf
+computed = (tt, tt)
+
+-- "Worked on the bench": cases 1-12
+pub cases-hold : T (holds worked)
+cases-hold = computed .0
+
+-- "Errors that look right"
+pub errors-fail : T (holds errors)
+errors-fail = computed .1

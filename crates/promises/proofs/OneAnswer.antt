@@ -1,0 +1,182 @@
+-- One answer for one input, for every public operation of every crate. Each line of the list has an operation's contract, as the toolchain reads
+-- it off the source, and the outcome that it names, in the words of its `ensures`: the answer, then one place a parameter, with the bytes that a
+-- `&mut` holds afterwards. That the contract says this outcome and no other is checked at each; that two outcomes are then equal is one lemma.
+-- Assumes nothing.
+use Prim.Native.Nat.{ℕ}
+use mathlib.Core.List.{List, [], _∷_}
+use mathlib.Core.Path.{_≡_, sym, _∙_}
+use contract.Lifetimes.{Lfts}
+use denote.Ref.{now}
+use Rattle.parts.specs.Load.{noLoad, loaded, stored}
+use Rattle.parts.specs.Locks.{firstLocked}
+use Rattle.parts.specs.Place.{received, bitOf, placeFits, placePulls, risen}
+use Rattle.parts.specs.Register.{registerByte, written}
+use Rattle.parts.specs.Sector.{sectorStart, nextPlace, nextAddress}
+use Rattle.parts.proofs.bits
+use Rattle.parts.proofs.locks
+use Rattle.parts.proofs.sector
+use Rattle.parts.proofs.transfer
+use Rattle.chip.specs.Chip.{standardChip}
+use Rattle.chip.specs.Event.{next, nextArray, refusal, eventAnswer, eventArray, made}
+use Rattle.chip.proofs.model.Chip
+use Rattle.trace.specs.Bytes.{eventOf, answerByte}
+use Rattle.trace.specs.Trace.{ranOf, runArray, runAnswers}
+use Rattle.trace.proofs as trace
+use Rattle.recovery.specs.Recovery.{recoveryAnswer, recoveryArray}
+use Rattle.recovery.proofs as recovery
+use Rattle.gate.specs.Naming.{placeOf, nameOf}
+use Rattle.gate.specs.Reading.{readOf}
+use Rattle.gate.specs.Values.{givenOf}
+use Rattle.gate.specs.Writing.{writeOf, writtenOf}
+use Rattle.gate.proofs as gate
+use Rattle.promises.specs.OneAnswer.{Contract, Input, Result, Left, Allows, Outcome, outcome, OneAnswer, whole}
+
+-- a public operation, and that it has one answer for one input
+pub record Operation : Type 3 where
+  pub contract : Contract
+  pub one-answer : OneAnswer contract
+
+-- a contract that names its outcome allows that one alone
+one : (c : Contract) (says : (κs : Lfts (c .lifetimes)) (input : Input c κs) → Outcome c κs input) → ((κs : Lfts (c .lifetimes)) (input : Input c κs) (r : Result c κs) (left : Left c κs input) → Allows c κs input r left → outcome c κs input r left ≡ says κs input) → Operation
+one c says named =
+    record {
+      contract = c;
+      one-answer = λ κs input r r′ left left′ p q. named κs input r left p ∙ sym (named κs input r′ left′ q);
+    }
+
+-- the answer is named, and nothing can be left that was not there
+alone : {A U : Type 0} {r d : A} {left : U} → r ≡ d → _≡_ {A = A × U} (r, left) (d, left)
+alone {left} p i = (p i, left)
+
+-- the answer and the bytes of the second parameter are named
+with-array : {A U : Type 0} {r d : A} {left : Unit {0} × (List ℕ × U)} {ys : List ℕ} → (r ≡ d) × (left .1 .0 ≡ ys) → _≡_ {A = A × (Unit {0} × (List ℕ × U))} (r, left) (d, (tt, (ys, left .1 .1)))
+with-array {left} p i = (p .0 i, (tt, (p .1 i, left .1 .1)))
+
+-- the name shown is a slice: what the caller has of it is its bytes, and where they lie is the answer of `shown_place`
+abbrev shownName : Contract
+shownName =
+    record {
+      lifetimes = 1;
+      parameters = gate.shown_name.Kinds.ps;
+      result = gate.shown_name.Kinds.r;
+      ensures = gate.shown_name.Reads.Post;
+      Had = λ κs. List ℕ;
+      had = λ κs r. now r;
+    }
+
+-- the public operations, crate by crate
+pub operations : List Operation
+operations =
+    -- parts::transfer::bit_of
+    one (whole 0 transfer.bit_of.Kinds.ps transfer.bit_of.Kinds.r transfer.bit_of.Reads.Post)
+    (λ κs (byte, (bit, end)). (bitOf byte bit, (tt, (tt, tt))))
+    (λ κs input r left. alone)
+    -- parts::transfer::with_bit
+    ∷ one (whole 0 transfer.with_bit.Kinds.ps transfer.with_bit.Kinds.r transfer.with_bit.Reads.Post)
+    (λ κs (got, (bit, end)). (received got bit, (tt, (tt, tt))))
+    (λ κs input r left. alone)
+    -- Place::fits
+    ∷ one (whole 0 transfer.Place.fits.Kinds.ps transfer.Place.fits.Kinds.r transfer.Place.fits.Reads.Post)
+    (λ κs (self, end). (placeFits self, (tt, tt)))
+    (λ κs input r left. alone)
+    -- Place::pulls
+    ∷ one (whole 0 transfer.Place.pulls.Kinds.ps transfer.Place.pulls.Kinds.r transfer.Place.pulls.Reads.Post)
+    (λ κs (self, end). (placePulls self, (tt, tt)))
+    (λ κs input r left. alone)
+    -- Place::risen
+    ∷ one (whole 0 transfer.Place.risen.Kinds.ps transfer.Place.risen.Kinds.r transfer.Place.risen.Reads.Post)
+    (λ κs (self, (bit, end)). (risen self bit, (tt, (tt, tt))))
+    (λ κs input r left. alone)
+    -- Register::byte
+    ∷ one (whole 0 bits.Register.byte.Kinds.ps bits.Register.byte.Kinds.r bits.Register.byte.Reads.Post)
+    (λ κs (self, end). (registerByte self, (tt, tt)))
+    (λ κs input r left. alone)
+    -- Register::written
+    ∷ one (whole 0 bits.Register.written.Kinds.ps bits.Register.written.Kinds.r bits.Register.written.Reads.Post)
+    (λ κs (self, (byte, (pin, end))). (written self byte pin, (tt, (tt, (tt, tt)))))
+    (λ κs input r left. alone)
+    -- parts::locks::first_locked
+    ∷ one (whole 0 locks.first_locked.Kinds.ps locks.first_locked.Kinds.r locks.first_locked.Reads.Post)
+    (λ κs (part, (bl, end)). (firstLocked part bl, (tt, (tt, tt))))
+    (λ κs input r left. alone)
+    -- parts::sector::sector_start
+    ∷ one (whole 0 sector.sector_start.Kinds.ps sector.sector_start.Kinds.r sector.sector_start.Reads.Post)
+    (λ κs (address, end). (sectorStart address, (tt, tt)))
+    (λ κs input r left. alone)
+    -- parts::sector::next_place
+    ∷ one (whole 0 sector.next_place.Kinds.ps sector.next_place.Kinds.r sector.next_place.Reads.Post)
+    (λ κs (address, end). (nextPlace address, (tt, tt)))
+    (λ κs input r left. alone)
+    -- parts::sector::next_address
+    ∷ one (whole 0 sector.next_address.Kinds.ps sector.next_address.Kinds.r sector.next_address.Reads.Post)
+    (λ κs (address, end). (nextAddress address, (tt, tt)))
+    (λ κs input r left. alone)
+    -- Load::none
+    ∷ one (whole 0 sector.Load.none.Kinds.ps sector.Load.none.Kinds.r sector.Load.none.Reads.Post)
+    (λ κs end. (noLoad, tt))
+    (λ κs input r left. alone)
+    -- Load::with
+    ∷ one (whole 0 sector.Load.with.Kinds.ps sector.Load.with.Kinds.r sector.Load.with.Reads.Post)
+    (λ κs (self, (at, (byte, end))). (loaded self at byte, (tt, (tt, (tt, tt)))))
+    (λ κs input r left. alone)
+    -- Load::store, which answers nothing and stores in the array
+    ∷ one (whole 1 sector.Load.store.Kinds.ps sector.Load.store.Kinds.r sector.Load.store.Reads.Post)
+    (λ κs (self, (array, (start, end))). (tt, (tt, (stored (now array) start self, (tt, tt)))))
+    (λ κs input r left p i. (tt, (tt, (p i, left .1 .1))))
+    -- Chip::standard
+    ∷ one (whole 0 Chip.standard.Kinds.ps Chip.standard.Kinds.r Chip.standard.Reads.Post)
+    (λ κs end. (standardChip, tt))
+    (λ κs input r left. alone)
+    -- Chip::new
+    ∷ one (whole 0 Chip.new.Kinds.ps Chip.new.Kinds.r Chip.new.Reads.Post)
+    (λ κs (part, (select, end)). (made part select, (tt, (tt, tt))))
+    (λ κs input r left. alone)
+    -- Chip::next
+    ∷ one (whole 1 Chip.next.Kinds.ps Chip.next.Kinds.r Chip.next.Reads.Post)
+    (λ κs (self, (array, (event, end))). (next event self (now array), (tt, (nextArray event self (now array), (tt, tt)))))
+    (λ κs input r left. with-array)
+    -- Chip::refusal
+    ∷ one (whole 1 Chip.refusal.Kinds.ps Chip.refusal.Kinds.r Chip.refusal.Reads.Post)
+    (λ κs (self, (array, end)). (refusal self (now array), (tt, (tt, tt))))
+    (λ κs input r left. alone)
+    -- Chip::event
+    ∷ one (whole 1 Chip.event.Kinds.ps Chip.event.Kinds.r Chip.event.Reads.Post)
+    (λ κs (self, (array, (event, end))). (eventAnswer event self (now array), (tt, (eventArray event self (now array), (tt, tt)))))
+    (λ κs input r left. with-array)
+    -- trace::event_of
+    ∷ one (whole 0 trace.event_of.Kinds.ps trace.event_of.Kinds.r trace.event_of.Reads.Post)
+    (λ κs (byte, end). (eventOf byte, (tt, tt)))
+    (λ κs input r left. alone)
+    -- trace::answer_byte
+    ∷ one (whole 0 trace.answer_byte.Kinds.ps trace.answer_byte.Kinds.r trace.answer_byte.Reads.Post)
+    (λ κs (line, (note, end)). (answerByte line note, (tt, (tt, tt))))
+    (λ κs input r left. alone)
+    -- trace::run
+    ∷ one (whole 3 trace.run.Kinds.ps trace.run.Kinds.r trace.run.Reads.Post)
+    (λ κs (chip, (array, (bytes, (answers, end)))). (ranOf chip (now array) (now bytes) (now answers), (tt, (runArray chip (now array) (now bytes) (now answers), (tt, (runAnswers chip (now array) (now bytes) (now answers), tt))))))
+    (λ κs input r left p i. (p .0 i, (tt, (p .1 .0 i, (tt, (p .1 .1 i, tt))))))
+    -- recovery::recover
+    ∷ one (whole 1 recovery.recover.Kinds.ps recovery.recover.Kinds.r recovery.recover.Reads.Post)
+    (λ κs (chip, (array, (pin, end))). (recoveryAnswer pin chip (now array), (tt, (recoveryArray pin chip (now array), (tt, tt)))))
+    (λ κs input r left. with-array)
+    -- gate::write
+    ∷ one (whole 2 gate.write.Kinds.ps gate.write.Kinds.r gate.write.Reads.Post)
+    (λ κs (buffer, (closed, (opened, (label, end)))). (writeOf (now buffer) closed opened (now label), (writtenOf (now buffer) closed opened (now label), (tt, (tt, (tt, tt))))))
+    (λ κs input r left p i. (p .0 i, (p .1 i, left .1)))
+    -- gate::read
+    ∷ one (whole 1 gate.read.Kinds.ps gate.read.Kinds.r gate.read.Reads.Post)
+    (λ κs (bytes, end). (readOf (now bytes), (tt, tt)))
+    (λ κs input r left. alone)
+    -- Read::given
+    ∷ one (whole 0 gate.answer.Read.given.Kinds.ps gate.answer.Read.given.Kinds.r gate.answer.Read.given.Reads.Post)
+    (λ κs (self, end). (givenOf self, (tt, tt)))
+    (λ κs input r left. alone)
+    -- gate::shown_place
+    ∷ one (whole 2 gate.shown_place.Kinds.ps gate.shown_place.Kinds.r gate.shown_place.Reads.Post)
+    (λ κs (bytes, (standard, end)). (placeOf (now bytes) (now standard), (tt, (tt, tt))))
+    (λ κs input r left. alone)
+    -- gate::shown_name
+    ∷ one shownName
+    (λ κs (bytes, (standard, end)). (nameOf (now bytes) (now standard), (tt, (tt, tt))))
+    (λ κs input r left. alone)
+    ∷ []
