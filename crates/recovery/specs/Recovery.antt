@@ -4,13 +4,14 @@
 -- |---|---|
 -- | `sample scl sda pin` | a sample as an event |
 -- | `pulse pin w` | after one pulse |
+-- | `pulseBytes pin`, `startBytes pin` | a pulse and the start as event bytes |
 -- | `Freed` | where the pulses ended, and the number of the last |
 -- | `pulsed left k pin w`, `freed pin w` | pulses from number k on, `left` more allowed after it; from the first, ten at most |
 -- | `recovered pin w` | after the pulses and the start |
 -- | `recoveryAnswer`, `recoveryArray` | what recovery answers, and the array at its exit |
 use Prim.Native.Nat.{ℕ, zero, suc, _+_}
 use mathlib.Core.Bool.{Bool, true, false, cond}
-use mathlib.Core.List.{List}
+use mathlib.Core.List.{List, [], _∷_}
 use lib.Dec.{eqb}
 use Rattle.chip.specs.Event.{refusal}
 use Rattle.chip.specs.Run.{World, world, step}
@@ -26,6 +27,14 @@ sample scl sda pin = Sample (record { scl = scl; sda = sda; pin = pin })
 -- the clock low, then high, the data line let go in both
 unfoldable pub pulse : Bool → World → World
 pulse pin w = step (sample true true pin) (step (sample false true pin) w)
+
+-- the same samples as event bytes: bit 0 SCL, bit 1 SDA, bit 2 the pin
+unfoldable pub pulseBytes : Bool → List ℕ
+pulseBytes pin = cond pin (6 ∷ 7 ∷ []) (2 ∷ 3 ∷ [])
+
+-- and the start: SCL high, SDA pulled
+unfoldable pub startBytes : Bool → List ℕ
+startBytes pin = cond pin (5 ∷ []) (1 ∷ [])
 
 -- the world after the last pulse, and its number
 pub record Freed : Type 0 where

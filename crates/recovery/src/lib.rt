@@ -1,10 +1,11 @@
 // Freeing a hung bus: clock pulses with the data line let go until the line is high, then a start.
 ghost use mathlib.Core.Path.{_≡_};
-ghost use Rattle.recovery.specs.Recovery.{sample, pulse, freed, recovered, recoveryAnswer, recoveryArray};
+ghost use mathlib.Core.Bool.{true, false};
+ghost use Rattle.chip.specs.Event.{refusal};
+ghost use Rattle.recovery.specs.Recovery.{sample, pulseBytes, startBytes, pulse, freed, recoveryAnswer, recoveryArray};
 ghost use Rattle.chip.specs.Run.{world, step};
 use chip::model::Chip;
-use chip::wire::Event;
-use chip::wire::Sample;
+use trace::run;
 
 // What recovery answers: the refusal, the chip, and the number of the first pulse after which the line was high.
 pub struct Recovered {
@@ -19,36 +20,46 @@ struct Pulsed {
     pulses: u8,
 }
 
-// One sample.
-fn sampled(chip: Chip, array: &mut [u8], scl: bool, sda: bool, pin: bool) -> Chip
-    ensures { λ r. ⌜ r ≡ step (sample scl sda pin) (world chip (now (array .entry))) .chip ⌝ }
-    ensures { λ r. ⌜ now (array .exit) ≡ step (sample scl sda pin) (world chip (now (array .entry))) .array ⌝ }
+// The event bytes of one pulse: the clock low, then high, the data line let go.
+fn pulse_bytes(pin: bool) -> [u8; 2]
+    ensures { λ r. ⌜ r ≡ pulseBytes pin ⌝ }
 {
-    let moved = chip.next(
-        array,
-        Event::Sample(Sample {
-            scl: scl,
-            sda: sda,
-            pin: pin,
-        }),
-    );
-    moved.chip
+    if pin { [6, 7] } else { [2, 3] }
 }
 
-// One pulse: the clock low, then high, the data line let go.
-fn pulsed_once(chip: Chip, array: &mut [u8], pin: bool) -> Chip
-    ensures { λ r. ⌜ r ≡ pulse pin (world chip (now (array .entry))) .chip ⌝ }
-    ensures { λ r. ⌜ now (array .exit) ≡ pulse pin (world chip (now (array .entry))) .array ⌝ }
+// The event byte of the start: the clock high, the data line pulled.
+fn start_bytes(pin: bool) -> [u8; 1]
+    ensures { λ r. ⌜ r ≡ startBytes pin ⌝ }
 {
-    let low = sampled(chip, array, false, true, pin);
-    sampled(low, array, true, true, pin)
+    if pin { [5] } else { [1] }
+}
+
+// One pulse.
+fn pulsed_once(chip: Chip, array: &mut [u8], pin: bool) -> Chip
+    requires { ⌜ refusal chip (now array) ≡ 0 ⌝ }
+    ensures { λ r. ⌜ world r (now (array .exit)) ≡ pulse pin (world chip (now (array .entry))) ⌝ }
+{
+    let bytes = pulse_bytes(pin);
+    let mut told = [0u8; 2];
+    let ran = run(chip, array, &bytes, &mut told);
+    ran.chip
+}
+
+// The start.
+fn started(chip: Chip, array: &mut [u8], pin: bool) -> Chip
+    requires { ⌜ refusal chip (now array) ≡ 0 ⌝ }
+    ensures { λ r. ⌜ world r (now (array .exit)) ≡ step (sample true false pin) (world chip (now (array .entry))) ⌝ }
+{
+    let bytes = start_bytes(pin);
+    let mut told = [0u8; 1];
+    let ran = run(chip, array, &bytes, &mut told);
+    ran.chip
 }
 
 // Pulses until the line is high, at most ten.
 fn pulsed_free(chip: Chip, array: &mut [u8], pin: bool) -> Pulsed
-    ensures { λ r. ⌜ r .chip ≡ freed pin (world chip (now (array .entry))) .world .chip ⌝ }
-    ensures { λ r. ⌜ r .pulses ≡ freed pin (world chip (now (array .entry))) .pulses ⌝ }
-    ensures { λ r. ⌜ now (array .exit) ≡ freed pin (world chip (now (array .entry))) .world .array ⌝ }
+    requires { ⌜ refusal chip (now array) ≡ 0 ⌝ }
+    ensures { λ r. ⌜ (world (r .chip) (now (array .exit)) ≡ freed pin (world chip (now (array .entry))) .world) × (r .pulses ≡ freed pin (world chip (now (array .entry))) .pulses) ⌝ }
 {
     let mut c = chip;
     let mut k: u8 = 1;
@@ -77,10 +88,10 @@ pub fn recover(chip: Chip, array: &mut [u8], pin: bool) -> Recovered
     if number == 0 {
         let free = pulsed_free(chip, array, pin);
         let pulses = free.pulses;
-        let started = sampled(free.chip, array, true, false, pin);
+        let last = started(free.chip, array, pin);
         return Recovered {
             refusal: 0,
-            chip: started,
+            chip: last,
             pulses: pulses,
         };
     }

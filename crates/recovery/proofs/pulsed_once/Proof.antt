@@ -1,20 +1,23 @@
--- `pulsed_once` meets its contract: two samples. Assumes nothing.
-use mathlib.Core.Bool.{true}
-use mathlib.Core.Path.{ap, _∙_}
+-- `pulsed_once` meets its contract: a run of its two event bytes. Assumes nothing.
+use mathlib.Core.Path.{refl}
 use borrow.Author.Needs.{needs}
-use Rattle.chip.specs.Run.{World, step}
-use Rattle.recovery.specs.Recovery.{pulse, sample}
-use Rattle.recovery.proofs.PulseLaws.{world-of}
+use Rattle.recovery.proofs.PulseLaws.{run-pulse}
 use Rattle.recovery.proofs.pulsed_once.Statement.{statement}
 use Rattle.recovery.proofs.pulsed_once.Tie as tie
 
 returns : tie.Need-returns
-unfolding pulse
 returns c =
-    let low = world-of _ (c .before .before .before .before .before .before .sampled .ensures .0) (c .before .before .before .before .before .before .sampled .ensures .1) in (
-      c .before .before .sampled2 .ensures .0 ∙ ap (λ (w : World). step (sample true true (c .before .before .before .before .before .before .before .before .before .args .pin)) w .chip) low,
-      c .before .before .sampled2 .ensures .1 ∙ ap (λ (w : World). step (sample true true (c .before .before .before .before .before .before .before .before .before .args .pin)) w .array) low,
-    )
+    let ran = c .before .before .before .before .run .ensures in
+    simp (ran .0, ran .1 .0, c .before .before .before .before .before .before .before .before .pulse-bytes .ensures)
+    (run-pulse _ _ _ _ (c .before .before .before .before .before .before .before .before .before .before .pre) refl)
 
 pub pulsed-once-spec : {M : Type 1} → statement M
-pulsed-once-spec = tie.close (tie.spec (λ c κs. search needs) (λ c κs. search needs) (λ c. search needs) returns)
+pulsed-once-spec =
+    tie.close
+    (tie.spec
+    (λ c κs. search needs)
+    (λ c. search needs)
+    (λ c. search needs)
+    (λ c κs. search needs)
+    (λ c. search needs)
+    returns)

@@ -1,8 +1,12 @@
 -- `recover` meets its contract: the pulses, then the start; a refusal leaves all as it was. Assumes nothing.
-use mathlib.Core.Path.{sym, _∙_}
+use mathlib.Core.Bool.{true, false}
+use mathlib.Core.Path.{_≡_, ap, sym, _∙_}
 use borrow.Author.Needs.{needs}
 use borrow.Author.Tests.{eq-eqb, ne-eqb}
-use Rattle.recovery.specs.Recovery.{recovered, recoveryAnswer, recoveryArray}
+use Rattle.chip.specs.Event.{refusal}
+use Rattle.chip.specs.Run.{World, step}
+use Rattle.recovery.specs.Recovery.{sample, recovered, recoveryAnswer, recoveryArray}
+use Rattle.recovery.proofs.PulseLaws.{pulsed-taken}
 use Rattle.recovery.proofs.recover.Statement.{statement}
 use Rattle.recovery.proofs.recover.Tie as tie
 
@@ -11,7 +15,8 @@ unfolding recovered recoveryAnswer recoveryArray
 returns c =
     let free = c .before .before .before .before .before .before .pulsed-free .ensures in
     let taken = eq-eqb _ _ (sym (c .before .before .before .before .before .before .before .before .before .refusal .ensures) ∙ c .before .before .before .before .before .before .before .before .if1 .taken) in
-    (simp (c .before .before .sampled .ensures .0, free .0, free .1 .0, free .1 .1, taken), simp (c .before .before .sampled .ensures .1, free .0, free .1 .1, taken))
+    let whole = c .before .before .started .ensures ∙ ap (λ (w : World). step (sample true false (c .before .before .before .before .before .before .before .before .before .before .before .before .args .pin)) w) (free .0) in
+    (simp (ap (λ (w : World). w .chip) whole, free .1, taken), simp (ap (λ (w : World). w .array) whole, taken))
 
 returns-2 : tie.Need-returns-2
 unfolding recoveryAnswer recoveryArray
@@ -24,8 +29,10 @@ recover-spec =
     tie.close
     (tie.spec
     (λ c κs. search needs)
-    (λ c κs. search needs)
-    (λ c κs. search needs)
+    (λ c κs. sym (c .before .before .refusal .ensures) ∙ c .before .if1 .taken)
+    (λ c κs.
+    ap (λ (w : World). refusal (w .chip) (w .array)) (c .before .before .before .pulsed-free .ensures .0)
+    ∙ pulsed-taken 9 1 _ _ (sym (c .before .before .before .before .before .before .refusal .ensures) ∙ c .before .before .before .before .before .if1 .taken))
     (λ c. search needs)
     returns
     (λ c. search needs)
