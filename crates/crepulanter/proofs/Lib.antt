@@ -1,0 +1,8 @@
+pub mod Clearing
+pub mod Copies
+pub mod Labels
+pub mod OneAnswer
+pub mod OneEvent
+pub mod Refusals
+pub mod RoundTrip
+pub mod Rows

@@ -1,0 +1,137 @@
+-- Packing and unpacking undo each other. A chip that is packed and unpacked is the chip, whatever its numbers, where its load has
+-- its 32 places and bytes, as every chip of the code has; and bytes that fit come back with what their place does not carry cleared.
+-- Assumes nothing.
+use Prim.Native.Nat.{ℕ, zero, suc, _+_, _*_, _/_, _%_, _<_, _≤_}
+use mathlib.Core.Bool.{Bool, true, false, cond, _&&_}
+use mathlib.Core.Path.{_≡_, refl, sym, ap, ap₂, _∙_}
+use mathlib.Core.List.{List, [], _∷_, _++_, map}
+use native.Mathlib.Nat.{div-add-mod'}
+use native.Mathlib.Omega.{arith}
+use lib.Dec.{eqb, leb}
+use lib.ListN.{length, getD, take, drop, length-map, length-append, length-drop}
+use lib.Seq.{length-take-le, take-all, take-at, drop-at, getD-take, getD-drop, ext-getD}
+use Rattle.parts.specs.declared.transfer.Place.{Place}
+use Rattle.parts.specs.declared.transfer.Place.the-variants.{Standby, Slave, First, Second, Data, AckWrite, AckRead, AckFirst, AckByte, Sending, Waiting, Next}
+use Rattle.chip.specs.declared.model.Chip.{Chip}
+use Rattle.crepulanter.proofs.Rows.{length-row, row-at}
+use Rattle.crepulanter.specs.State.{row, flagOf, flagByte, placeOf, placeBytes, allFlags, headFits, bytesFit, chipOf, headOf, bytesOf}
+
+-- a place from its four bytes
+pub place-back :
+    (p : Place)
+    → placeOf (getD (placeBytes p) 0 0) (getD (placeBytes p) 1 0) (getD (placeBytes p) 2 0) (getD (placeBytes p) 3 0) ≡ p
+unfolding placeOf placeBytes
+place-back Standby = refl
+place-back (Slave bits got) = refl
+place-back (First bits got) = refl
+place-back (Second high bits got) = refl
+place-back (Data bits got) = refl
+place-back AckWrite = refl
+place-back AckRead = refl
+place-back (AckFirst high) = refl
+place-back AckByte = refl
+place-back (Sending bit byte) = refl
+place-back Waiting = refl
+place-back Next = refl
+
+-- its number is one of the twelve
+pub place-fits : (p : Place) → leb (getD (placeBytes p) 0 0) 11 ≡ true
+unfolding placeBytes
+place-fits Standby = refl
+place-fits (Slave bits got) = refl
+place-fits (First bits got) = refl
+place-fits (Second high bits got) = refl
+place-fits (Data bits got) = refl
+place-fits AckWrite = refl
+place-fits AckRead = refl
+place-fits (AckFirst high) = refl
+place-fits AckByte = refl
+place-fits (Sending bit byte) = refl
+place-fits Waiting = refl
+place-fits Next = refl
+
+-- a flag from its byte, and its byte is a flag's
+pub flag-back : (on : Bool) → flagOf (flagByte on) ≡ on
+flag-back true = refl
+flag-back false = refl
+
+pub flag-fits : (on : Bool) → leb (flagByte on) 1 ≡ true
+flag-fits true = refl
+flag-fits false = refl
+
+flags-back : (l : List Bool) → map flagOf (map flagByte l) ≡ l
+flags-back [] = refl
+flags-back (on ∷ l) = ap₂ (λ (x : Bool) (r : List Bool). x ∷ r) (flag-back on) (flags-back l)
+
+flags-fit : (l : List Bool) → allFlags (map flagByte l) ≡ true
+unfolding allFlags
+flags-fit [] = refl
+flags-fit (on ∷ l) = rw (flag-fits on, flags-fit l)
+
+-- a row is a part of the bytes that reach its end
+pub row-part : (n at : ℕ) (b : List ℕ) → at + n ≤ length b → row n at b ≡ take n (drop at b)
+row-part n at b h =
+    let long : length (take n (drop at b)) ≡ n = length-take-le n (drop at b) (simp length-drop (omega arith)) in
+    ext-getD 0 (row n at b) (take n (drop at b)) (length-row n at b ∙ sym long)
+    (λ k below.
+    let inside : k < n = rw (length-row n at b) at below in
+    sym (row-at n at b k inside) ∙ sym (getD-drop at b k 0) ∙ sym (getD-take n (drop at b) k 0 inside))
+
+-- a chip whose load has its 32 places and bytes
+module _ (c : Chip) (places : length (c .load .places) ≡ 32) (bytes : length (c .load .bytes) ≡ 32) where
+  flags : List ℕ
+  flags = map flagByte (c .load .places)
+
+  long : length flags ≡ 32
+  unfolding flags
+  long = length-map (c .load .places) flagByte ∙ places
+
+  pub packed-length : length (bytesOf c) ≡ 81
+  unfolding bytesOf headOf flags
+  packed-length = rw (length-append flags (c .load .bytes), long, bytes)
+
+  packed-places : row 32 17 (bytesOf c) ≡ flags
+  unfolding bytesOf headOf flags
+  packed-places = row-part 32 17 (bytesOf c) (omega (arith, packed-length)) ∙ take-at flags (c .load .bytes) 32 long
+
+  packed-load : row 32 49 (bytesOf c) ≡ c .load .bytes
+  unfolding bytesOf headOf flags
+  packed-load =
+      row-part 32 49 (bytesOf c) (omega (arith, packed-length))
+      ∙ ap (λ (l : List ℕ). take 32 l) (drop-at flags (c .load .bytes) 32 long)
+      ∙ take-all 32 (c .load .bytes) (omega arith)
+
+  -- packed and unpacked it is itself
+  pub chip-back : chipOf (bytesOf c) ≡ c
+  unfolding chipOf bytesOf headOf flags
+  chip-back =
+      λ i.
+      record {
+        part = c .part;
+        select = c .select;
+        register =
+            record {
+              ppen = flag-back (c .register .ppen) i;
+              bl = c .register .bl;
+              rpel = flag-back (c .register .rpel) i;
+              pel = flag-back (c .register .pel) i;
+            };
+        counter = div-add-mod' (c .counter) 256 i;
+        mark = flag-back (c .mark) i;
+        busy = flag-back (c .busy) i;
+        scl = flag-back (c .scl) i;
+        line = flag-back (c .line) i;
+        place = place-back (c .place) i;
+        load =
+            record {
+              bytes = packed-load i;
+              places = (ap (λ (l : List ℕ). map flagOf l) packed-places ∙ flags-back (c .load .places)) i;
+              count = c .load .count;
+            };
+      }
+
+  -- and its bytes fit
+  pub packed-fit : bytesFit (bytesOf c) ≡ true
+  unfolding bytesFit headFits bytesOf headOf flags
+  packed-fit =
+      simp (flag-fits, place-fits, packed-places, flags-fit)

@@ -1,0 +1,46 @@
+-- `crep_recover` meets its contract: the bus is freed where the bytes fit. Assumes nothing.
+use mathlib.Core.Path.{sym, _∙_}
+use borrow.Author.Needs.{needs}
+use borrow.Author.Tests.{ne-eqb}
+use Rattle.crepulanter.specs.Calls.{recoverNumber}
+use Rattle.crepulanter.proofs.Refusals.{unfit-taken}
+use Rattle.crepulanter.proofs.chips.crep_recover.Statement.{statement}
+use Rattle.crepulanter.proofs.chips.crep_recover.Tie as tie
+
+returns : tie.Need-returns
+unfolding recoverNumber
+returns c =
+    let fit = sym (c .before .before .before .before .before .before .before .before .before .before .bytes-fit .ensures) ∙ c .before .before .before .before .before .before .before .before .before .if1 .taken in
+    let chip = sym (c .before .before .before .before .before .before .before .unpack .ensures) in
+    let done = sym (c .before .before .before .before .before .recover .ensures .0) in
+    record { returned = simp (fit, chip, done, c .before .before .if2 .taken); state = simp (fit, chip, done, c .before .before .if2 .taken, c .pack .ensures); array = simp (fit, chip, c .before .before .before .before .before .recover .ensures .1); pulsed = simp (fit, chip, done) }
+
+returns-2 : tie.Need-returns-2
+unfolding recoverNumber
+returns-2 c =
+    let fit = sym (c .before .before .before .before .before .before .before .before .bytes-fit .ensures) ∙ c .before .before .before .before .before .before .before .if1 .taken in
+    let chip = sym (c .before .before .before .before .before .unpack .ensures) in
+    let done = sym (c .before .before .before .recover .ensures .0) in
+    record { returned = simp (fit, chip, done); state = simp (fit, chip, done, ne-eqb _ _ (c .if2 .left)); array = simp (fit, chip, c .before .before .before .recover .ensures .1); pulsed = simp (fit, chip, done) }
+
+returns-3 : tie.Need-returns-3
+unfolding recoverNumber
+returns-3 c =
+    let fit = sym (c .before .before .before .bytes-fit .ensures) ∙ c .before .before .if1 .left in
+    record { returned = simp (fit, c .unfit-number .ensures); state = simp (fit, unfit-taken); array = simp fit; pulsed = simp fit }
+
+pub crep-recover-spec : {M : Type 1} → statement M
+crep-recover-spec =
+    tie.close
+    (tie.spec
+    (λ c κs. search needs)
+    (λ c κs. search needs)
+    (λ c κs. search needs)
+    (λ c κs. search needs)
+    (λ c. search needs)
+    returns
+    (λ c. search needs)
+    returns-2
+    (λ c κs. search needs)
+    (λ c. search needs)
+    returns-3)

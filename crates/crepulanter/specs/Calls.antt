@@ -1,0 +1,78 @@
+-- What each function of a chip answers to C: the number that it returns, and what every lent byte holds afterwards.
+--
+-- | Name | Meaning |
+-- |---|---|
+-- | `unfit` | the refusal of bytes that no chip has |
+-- | `eventRefusal` | the refusal of one event |
+-- | `runNumber` | the refusal of a trace |
+-- | `recoverNumber` | the refusal of a recovery |
+-- | `taken` | what a call leaves that was taken, or what was there before one that was refused |
+-- | `NewSays`, `EventSays`, `RunSays`, `RecoverSays` | the whole answer of each function |
+use Prim.Native.Nat.{ℕ}
+use mathlib.Core.Bool.{Bool, cond, not}
+use mathlib.Core.Path.{_≡_}
+use mathlib.Core.List.{List}
+use lib.Dec.{eqb, leb}
+use lib.ListN.{length}
+use Rattle.chip.specs.Event.{refusal, next, nextArray, made}
+use Rattle.chip.specs.declared.model.Chip.{Chip}
+use Rattle.recovery.specs.Recovery.{recoveryAnswer, recoveryArray}
+use Rattle.trace.specs.Bytes.{eventOf, answerByte}
+use Rattle.trace.specs.Trace.{ranOf, runArray, runAnswers}
+use Rattle.crepulanter.specs.State.{bytesFit, chipOf, bytesOf}
+
+-- a place above 11 or a flag that is neither 0 nor 1 is refusal 2, after 1
+unfoldable pub unfit : List ℕ → ℕ
+unfit xs = cond (eqb (length xs) 16384) 2 1
+
+-- what is left where a call is taken, and where it is refused
+abbrev pub taken {ℓ} : {A : Type ℓ} → ℕ → A → A → A
+taken number done kept = cond (eqb number 0) done kept
+
+-- one event checks 1, 2 and then 6
+abbrev pub checked : ℕ → ℕ → ℕ
+checked number event = cond (eqb number 0) (cond (leb event 9) 0 6) number
+
+unfoldable pub eventRefusal : List ℕ → List ℕ → ℕ → ℕ
+eventRefusal b xs event = cond (bytesFit b) (checked (refusal (chipOf b) xs) event) (unfit xs)
+
+-- a trace checks 1, 2, 4, 5, 6
+unfoldable pub runNumber : List ℕ → List ℕ → List ℕ → List ℕ → ℕ
+runNumber b xs trace old = cond (bytesFit b) (ranOf (chipOf b) xs trace old .refusal) (unfit xs)
+
+-- recovery checks 1, 2; any pin level but 0 is high
+abbrev pub pinOf : ℕ → Bool
+pinOf pin = not (eqb pin 0)
+
+unfoldable pub recoverNumber : List ℕ → List ℕ → ℕ → ℕ
+recoverNumber b xs pin = cond (bytesFit b) (recoveryAnswer (pinOf pin) (chipOf b) xs .refusal) (unfit xs)
+
+-- a new chip, or the standard chip with 3
+pub record NewSays (part select : ℕ) (r : ℕ) (b′ : List ℕ) : Type 0 where
+  pub returned : r ≡ made part select .refusal
+  pub state : b′ ≡ bytesOf (made part select .chip)
+
+-- one event; a refusal leaves chip and array and answers 1: line high, note 0
+pub record EventSays (b xs : List ℕ) (event : ℕ) (r : ℕ) (b′ xs′ : List ℕ) (answer : ℕ) : Type 0 where
+  pub returned : r ≡ eventRefusal b xs event
+  pub state : b′ ≡ taken (eventRefusal b xs event) (bytesOf (next (eventOf event) (chipOf b) xs .chip)) b
+  pub array : xs′ ≡ taken (eventRefusal b xs event) (nextArray (eventOf event) (chipOf b) xs) xs
+  pub answered :
+      answer
+      ≡ taken (eventRefusal b xs event)
+      (answerByte (next (eventOf event) (chipOf b) xs .chip .line) (next (eventOf event) (chipOf b) xs .note))
+      1
+
+-- a trace; a refusal leaves chip, array and answers
+pub record RunSays (b xs trace old : List ℕ) (r : ℕ) (b′ xs′ told : List ℕ) : Type 0 where
+  pub returned : r ≡ runNumber b xs trace old
+  pub state : b′ ≡ taken (runNumber b xs trace old) (bytesOf (ranOf (chipOf b) xs trace old .chip)) b
+  pub array : xs′ ≡ cond (bytesFit b) (runArray (chipOf b) xs trace old) xs
+  pub answers : told ≡ cond (bytesFit b) (runAnswers (chipOf b) xs trace old) old
+
+-- recovery; a refusal leaves chip and array and reports 0 pulses
+pub record RecoverSays (b xs : List ℕ) (pin : ℕ) (r : ℕ) (b′ xs′ : List ℕ) (pulses : ℕ) : Type 0 where
+  pub returned : r ≡ recoverNumber b xs pin
+  pub state : b′ ≡ taken (recoverNumber b xs pin) (bytesOf (recoveryAnswer (pinOf pin) (chipOf b) xs .chip)) b
+  pub array : xs′ ≡ cond (bytesFit b) (recoveryArray (pinOf pin) (chipOf b) xs) xs
+  pub pulsed : pulses ≡ cond (bytesFit b) (recoveryAnswer (pinOf pin) (chipOf b) xs .pulses) 0

@@ -1,0 +1,38 @@
+-- What a place carries, and the bytes of a chip with all else cleared: the form in which a call that is taken leaves them.
+--
+-- | Name | Meaning |
+-- |---|---|
+-- | `carriesBits` | places whose bits and byte mean something: a byte is received or sent |
+-- | `carriesHigh` | places that keep the first address byte |
+-- | `cleared` | the bytes with 0 for bits, byte and high where the place does not carry them |
+-- | `Clean` | 81 bytes that fit, the low byte of the counter a byte, with nothing to clear |
+use Prim.Native.Nat.{ℕ, _<_}
+use mathlib.Core.Bool.{Bool, true, cond, _&&_, _||_}
+use mathlib.Core.Path.{_≡_}
+use mathlib.Core.List.{List, _∷_, _++_}
+use lib.Dec.{eqb, leb}
+use lib.ListN.{length, getD, take, drop}
+use Rattle.crepulanter.specs.State.{bytesFit}
+
+-- a slave, address or data byte, and the byte being sent
+unfoldable pub carriesBits : ℕ → Bool
+carriesBits place = leb 1 place && leb place 4 || eqb place 9
+
+-- the second address byte, and the acknowledge of the first
+unfoldable pub carriesHigh : ℕ → Bool
+carriesHigh place = eqb place 3 || eqb place 7
+
+-- a field that the place does not carry comes back as 0
+unfoldable pub cleared : List ℕ → List ℕ
+cleared b =
+    take 13 b
+    ++ (cond (carriesBits (getD b 12 0)) (getD b 13 0) 0
+    ∷ cond (carriesBits (getD b 12 0)) (getD b 14 0) 0
+    ∷ cond (carriesHigh (getD b 12 0)) (getD b 15 0) 0
+    ∷ drop 16 b)
+
+pub record Clean (b : List ℕ) : Type 0 where
+  pub sized : length b ≡ 81
+  pub fit : bytesFit b ≡ true
+  pub low : getD b 7 0 < 256
+  pub clear : cleared b ≡ b

@@ -1,0 +1,29 @@
+-- What reading a record and naming a gate answer to C; writing answers as the gate's own `writeOf` and `writtenOf` say.
+--
+-- | Name | Meaning |
+-- |---|---|
+-- | `ReadSays` | the number of the refusal or 0, the four numbers of a good record or zeros, and 1 for a free record |
+-- | `NameSays` | where the name shown lies, and 1 where that is in the record |
+use Prim.Native.Nat.{ℕ}
+use mathlib.Core.Path.{_≡_}
+use mathlib.Core.List.{List}
+use lib.IntN.{ℤ}
+use Rattle.gate.specs.Naming.{placeOf as shownAt}
+use Rattle.gate.specs.Outcome.{saysFree}
+use Rattle.gate.specs.Reading.{readOf}
+use Rattle.gate.specs.Values.{givenOf}
+use Rattle.crepulanter.specs.State.{flagByte}
+
+pub record ReadSays (bytes : List ℕ) (r : ℕ) (closed opened travel : ℤ) (label free : ℕ) : Type 0 where
+  pub returned : r ≡ givenOf (readOf bytes) .number
+  pub shut : closed ≡ givenOf (readOf bytes) .closed
+  pub wide : opened ≡ givenOf (readOf bytes) .opened
+  pub between : travel ≡ givenOf (readOf bytes) .travel
+  pub labelled : label ≡ givenOf (readOf bytes) .length
+  pub unused : free ≡ flagByte (saysFree (readOf bytes))
+
+pub record NameSays (bytes standard : List ℕ) (r start count own : ℕ) : Type 0 where
+  pub returned : r ≡ 0
+  pub first : start ≡ shownAt bytes standard .start
+  pub counted : count ≡ shownAt bytes standard .len
+  pub within : own ≡ flagByte (shownAt bytes standard .own)

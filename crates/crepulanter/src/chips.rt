@@ -1,0 +1,108 @@
+// The four functions of a chip.
+ghost use mathlib.Core.Path.{_≡_};
+ghost use Rattle.crepulanter.specs.Calls.{unfit, NewSays, EventSays, RunSays, RecoverSays};
+use crate::packing::pack;
+use crate::unpacking::bytes_fit;
+use crate::unpacking::unpack;
+use chip::model::Chip;
+use recovery::recover;
+use trace::run;
+
+// The refusal of bytes that no chip has: 1 where the array's length is wrong too, else 2.
+fn unfit_number(array: &[u8]) -> u8
+    ensures { λ r. ⌜ r ≡ unfit (now (array .entry)) ⌝ }
+{
+    if array.len() == 16384 {
+        return 2;
+    }
+    1
+}
+
+// Makes a new chip; refused with 3, the standard chip.
+#[no_mangle]
+pub extern "C" fn crep_new(state: &mut [u8; 81], part: u8, select: u8) -> u8
+    ensures { λ r. ⌜ NewSays part select r (now (state .exit)) ⌝ }
+{
+    let made = Chip::new(part, select);
+    let chip = made.chip;
+    *state = pack(chip);
+    made.refusal
+}
+
+// Runs one event. Refused with 1, 2 or 6 it changes nothing, and answers that the line is high, with note 0.
+#[no_mangle]
+pub extern "C" fn crep_event(
+    state: &mut [u8; 81],
+    array: &mut [u8],
+    event: u8,
+    answer: &mut u8,
+) -> u8
+    ensures { λ r. ⌜ EventSays (now (state .entry)) (now (array .entry)) event r (now (state .exit)) (now (array .exit)) (now (answer .exit)) ⌝ }
+{
+    *answer = 1;
+    if bytes_fit(state) {
+        let chip = unpack(state);
+        let trace = [event];
+        let mut told = [1u8; 1];
+        let ran = run(chip, array, &trace, &mut told);
+        let refused = ran.refusal;
+        if refused == 0 {
+            let next = ran.chip;
+            *state = pack(next);
+            *answer = told[0];
+            return 0;
+        }
+        return refused;
+    }
+    unfit_number(&array[..])
+}
+
+// Runs a trace. Refused with 1, 2, 4, 5 or 6 it changes nothing and writes no answer.
+#[no_mangle]
+pub extern "C" fn crep_run(
+    state: &mut [u8; 81],
+    array: &mut [u8],
+    trace: &[u8],
+    answers: &mut [u8],
+) -> u8
+    ensures { λ r. ⌜ RunSays (now (state .entry)) (now (array .entry)) (now (trace .entry)) (now (answers .entry)) r (now (state .exit)) (now (array .exit)) (now (answers .exit)) ⌝ }
+{
+    if bytes_fit(state) {
+        let chip = unpack(state);
+        let ran = run(chip, array, trace, answers);
+        let refused = ran.refusal;
+        if refused == 0 {
+            let last = ran.chip;
+            *state = pack(last);
+            return 0;
+        }
+        return refused;
+    }
+    unfit_number(&array[..])
+}
+
+// Frees the bus. Refused with 1 or 2 it changes nothing and reports 0 pulses.
+#[no_mangle]
+pub extern "C" fn crep_recover(
+    state: &mut [u8; 81],
+    array: &mut [u8],
+    pin: u8,
+    pulses: &mut u8,
+) -> u8
+    ensures { λ r. ⌜ RecoverSays (now (state .entry)) (now (array .entry)) pin r (now (state .exit)) (now (array .exit)) (now (pulses .exit)) ⌝ }
+{
+    if bytes_fit(state) {
+        let chip = unpack(state);
+        let free = recover(chip, array, pin != 0);
+        *pulses = free.pulses;
+        let refused = free.refusal;
+        if refused == 0 {
+            let started = free.chip;
+            *state = pack(started);
+            return 0;
+        }
+        return refused;
+    }
+    *pulses = 0;
+    unfit_number(&array[..])
+}

@@ -1,0 +1,67 @@
+-- Text as a list of bytes, and where it stands on a page.
+--     put page at text      the page with the text from `at` on
+--     glyph                 the last decimal digit of a number
+--     digits k n            the last k decimal digits of a number, the most significant first
+--     width, numeral        how many digits a number below 10,000 takes; its decimal numeral
+--     lineOf                position and note, one space between them
+--     eventLine             the line of an event, none where the note is 0
+--     linesFrom             the lines of a row of answers, the first at this position
+--     heading, countText, refusedText
+use Prim.Native.Nat.{ℕ, zero, suc, _+_, _*_, _/_, _%_}
+use mathlib.Core.Bool.{cond}
+use mathlib.Core.List.{List, [], _∷_, _++_}
+use lib.Dec.{eqb, ltb}
+use lib.ListN.{set}
+
+-- one byte after the other
+unfoldable pub put : List ℕ → ℕ → List ℕ → List ℕ
+put page at [] = page
+put page at (byte ∷ text) = put (set page at byte) (at + 1) text
+
+abbrev pub glyph : ℕ → ℕ
+glyph n = 48 + n % 10
+
+unfoldable pub digits : ℕ → ℕ → List ℕ
+digits zero n = []
+digits (suc k) n = digits k (n / 10) ++ (glyph n ∷ [])
+
+unfoldable pub width : ℕ → ℕ
+width n = cond (ltb n 10) 1 (cond (ltb n 100) 2 (cond (ltb n 1000) 3 4))
+
+unfoldable pub numeral : ℕ → List ℕ
+numeral n = digits (width n) n
+
+-- position, one space, note; every line ends with a newline
+unfoldable pub lineOf : ℕ → ℕ → List ℕ
+lineOf position note = numeral position ++ (0x20 ∷ (numeral note ++ (0x0a ∷ [])))
+
+-- bits 1-3 of an answer byte
+abbrev pub noteIn : ℕ → ℕ
+noteIn answer = answer / 2 % 8
+
+-- a line per event with a nonzero note
+unfoldable pub eventLine : ℕ → ℕ → List ℕ
+eventLine position answer = cond (eqb (noteIn answer) 0) [] (lineOf position (noteIn answer))
+
+-- position from 0
+unfoldable pub linesFrom : ℕ → List ℕ → List ℕ
+linesFrom position [] = []
+linesFrom position (answer ∷ answers) = eventLine position answer ++ linesFrom (position + 1) answers
+
+-- `event note`
+abbrev pub heading : List ℕ
+heading = 0x65 ∷ 0x76 ∷ 0x65 ∷ 0x6e ∷ 0x74 ∷ 0x20 ∷ 0x6e ∷ 0x6f ∷ 0x74 ∷ 0x65 ∷ 0x0a ∷ []
+
+-- `N events`
+abbrev pub eventsWord : List ℕ
+eventsWord = 0x20 ∷ 0x65 ∷ 0x76 ∷ 0x65 ∷ 0x6e ∷ 0x74 ∷ 0x73 ∷ 0x0a ∷ []
+
+unfoldable pub countText : ℕ → List ℕ
+countText n = numeral n ++ eventsWord
+
+-- `refused N`
+abbrev pub refusedWord : List ℕ
+refusedWord = 0x72 ∷ 0x65 ∷ 0x66 ∷ 0x75 ∷ 0x73 ∷ 0x65 ∷ 0x64 ∷ 0x20 ∷ []
+
+unfoldable pub refusedText : ℕ → List ℕ
+refusedText number = refusedWord ++ (numeral number ++ (0x0a ∷ []))

@@ -1,0 +1,135 @@
+#include "driver.h"
+
+enum { SLAVE_WRITE = 0xa0, SLAVE_READ = 0xa1, SECTOR = 32, PULSES = 10, POLLS = 1000 };
+
+/* ---- The wires ---- */
+
+/* The clock falls first, so that an acknowledge before it ends and the data wire can rise. */
+void wires_start(void)
+{
+    board_wires(0, 1);
+    board_wires(1, 1);
+    board_wires(1, 0);
+}
+
+void wires_stop(void)
+{
+    board_wires(0, 0);
+    board_wires(1, 0);
+    board_wires(1, 1);
+}
+
+int wires_clock(int sda)
+{
+    board_wires(0, sda);
+    board_wires(1, sda);
+    return board_line();
+}
+
+/* The ninth clock lets the data wire go: low is the chip's acknowledge. */
+int wires_send(uint8_t byte)
+{
+    int i;
+
+    for (i = 7; i >= 0; i--)
+        wires_clock(byte >> i & 1);
+    return wires_clock(1) == 0;
+}
+
+uint8_t wires_receive(int more)
+{
+    unsigned byte = 0;
+    int i;
+
+    for (i = 0; i < 8; i++)
+        byte = byte << 1 | (unsigned)wires_clock(1);
+    wires_clock(!more);
+    return (uint8_t)byte;
+}
+
+/* Ten, not nine: a chip stopped with the clock low in its acknowledge has a whole byte still to send. */
+int wires_free(void)
+{
+    int pulse;
+
+    for (pulse = 1; pulse <= PULSES; pulse++)
+        if (wires_clock(1)) {
+            board_wires(1, 0);
+            return pulse;
+        }
+    return 0;
+}
+
+/* ---- The memory ---- */
+
+static uint8_t slave(uint8_t select, uint8_t kind)
+{
+    return (uint8_t)(kind | select << 1);
+}
+
+static int send_address(uint8_t select, uint16_t address)
+{
+    wires_start();
+    return wires_send(slave(select, SLAVE_WRITE)) && wires_send((uint8_t)(address >> 8))
+        && wires_send((uint8_t)address);
+}
+
+/* The stop comes after a refused byte too: it leaves the chip in standby. */
+int memory_write(uint8_t select, uint16_t address, const uint8_t *bytes, size_t n)
+{
+    int good = send_address(select, address);
+    size_t i;
+
+    for (i = 0; good && i < n; i++)
+        good = wires_send(bytes[i]);
+    wires_stop();
+    return good;
+}
+
+/* The register stands at FFFFh; 02h sets PEL. */
+int memory_enable(uint8_t select)
+{
+    uint8_t byte = 0x02;
+
+    return memory_write(select, 0xffff, &byte, 1);
+}
+
+int memory_read(uint8_t select, uint16_t address, uint8_t *bytes, size_t n)
+{
+    int good = send_address(select, address);
+    size_t i;
+
+    if (good) {
+        wires_start();
+        good = wires_send(slave(select, SLAVE_READ));
+    }
+    for (i = 0; good && i < n; i++)
+        bytes[i] = wires_receive(i + 1 < n);
+    wires_stop();
+    return good;
+}
+
+/* A busy chip answers nothing, not even its own slave byte. */
+int memory_wait(uint8_t select, int polls)
+{
+    int poll, here;
+
+    for (poll = 1; poll <= polls; poll++) {
+        wires_start();
+        here = wires_send(slave(select, SLAVE_WRITE));
+        wires_stop();
+        if (here)
+            return poll;
+    }
+    return 0;
+}
+
+int memory_write_sector(uint8_t select, unsigned sector, const uint8_t *bytes)
+{
+    return memory_write(select, (uint16_t)(sector * SECTOR), bytes, SECTOR) && memory_wait(select, POLLS);
+}
+
+int memory_read_sector(uint8_t select, unsigned sector, uint8_t *bytes)
+{
+    return memory_read(select, (uint16_t)(sector * SECTOR), bytes, SECTOR);
+}

@@ -1,0 +1,41 @@
+/*
+ * A bit-banging driver for the X24128 and X24F128 on two wires, small enough to read before it is trusted. It stands
+ * over two functions that a board supplies: on a panel they move port pins, in host_test.c they move the model.
+ */
+#ifndef DRIVER_H
+#define DRIVER_H
+
+#include <stddef.h>
+#include <stdint.h>
+
+/* Supplied by the board. Sets both wires at once: 0 pulls a wire low, 1 lets it go. */
+void board_wires(int scl, int sda);
+
+/* Supplied by the board. The level of the data wire, which the chip may pull too. */
+int board_line(void);
+
+/* ---- The wires ---- */
+
+void wires_start(void);                 /* also as a repeated start, after a ninth clock */
+void wires_stop(void);                  /* after a ninth clock: the chip then sees exactly one bit before it */
+int wires_clock(int sda);               /* one clock; returns the level of the data wire in its high half */
+int wires_send(uint8_t byte);           /* returns whether the chip acknowledged */
+uint8_t wires_receive(int more);        /* more: another byte is to follow */
+
+/* Frees a hung bus and makes a start. Returns the pulses it took, 1 to 10; 0 where ten did not do. */
+int wires_free(void);
+
+/* ---- The memory: each returns whether the chip acknowledged every byte ---- */
+
+int memory_enable(uint8_t select);      /* sets PEL: data bytes are taken until the next power-up */
+int memory_write(uint8_t select, uint16_t address, const uint8_t *bytes, size_t n);
+int memory_read(uint8_t select, uint16_t address, uint8_t *bytes, size_t n);
+
+/* Asks the chip until it answers again, at most `polls` times. Returns how often it was asked; 0: still busy. */
+int memory_wait(uint8_t select, int polls);
+
+/* One sector, which is one gate's record; waits out the cycle. */
+int memory_write_sector(uint8_t select, unsigned sector, const uint8_t *bytes);
+int memory_read_sector(uint8_t select, unsigned sector, uint8_t *bytes);
+
+#endif

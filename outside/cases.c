@@ -1,0 +1,390 @@
+/*
+ * The paper's worked cases 1 to 13, its errors that look right, and demand 3 on random noise, on the model and on
+ * the library. What is expected stands here as the paper gives it.
+ */
+#include <stdio.h>
+#include <string.h>
+
+#include "chance.h"
+#include "kit.h"
+#include "wire.h"
+
+/* A chip with its array and the trace that is run on it. */
+struct bench {
+    const struct kit *kit;
+    struct crep_chip chip;
+    uint8_t array[CREP_ARRAY];
+    uint8_t trace[CREP_TRACE];
+    uint8_t answers[CREP_TRACE];
+    struct wire wire;
+};
+
+static struct bench bench;
+
+static unsigned counter_of(const struct crep_chip *chip)
+{
+    return chip->counter_high * 256u + chip->counter_low;
+}
+
+/* A new chip of this part on an array of FFh, and an empty trace. */
+static void open_bench(const struct kit *kit, uint8_t part)
+{
+    bench.kit = kit;
+    kit->make(&bench.chip, part, 0);
+    memset(bench.array, 0xff, sizeof bench.array);
+    wire_open(&bench.wire, bench.trace, sizeof bench.trace);
+}
+
+/* Runs the trace; the last event's note, or -1 where it is refused. */
+static int last_note(void)
+{
+    size_t n = bench.wire.len;
+
+    if (bench.kit->run(&bench.chip, bench.array, CREP_ARRAY, bench.trace, n, bench.answers, CREP_TRACE) != 0)
+        return -1;
+    return n ? CREP_NOTE(bench.answers[n - 1]) : 0;
+}
+
+/* The byte whose eight clocks begin at event `at`: the line in each high half. */
+static uint8_t byte_at(size_t at)
+{
+    unsigned byte = 0;
+    int i;
+
+    for (i = 0; i < 8; i++)
+        byte = byte * 2 + CREP_LINE(bench.answers[at + 2 * (size_t)i + 1]);
+    return (uint8_t)byte;
+}
+
+static int notes_of_writes(const struct kit *kit, uint8_t part, uint8_t bl, unsigned address, size_t n)
+{
+    static uint8_t bytes[64];
+
+    open_bench(kit, part);
+    bench.chip.pel = 1;
+    bench.chip.bl = bl;
+    wire_write(&bench.wire, 0, address, bytes, n);
+    return last_note();
+}
+
+/* 1. PPEN 1, BL 3, PEL 1 reads 9Ah. */
+static int case_1(const struct kit *kit)
+{
+    size_t at;
+
+    open_bench(kit, 0);
+    bench.chip.ppen = bench.chip.pel = bench.chip.mark = 1;
+    bench.chip.bl = 3;
+    wire_start(&bench.wire);
+    wire_send(&bench.wire, 0xa1);
+    at = bench.wire.len;
+    wire_receive(&bench.wire, 0);
+    return last_note() == 0 && byte_at(at) == 0x9a && !bench.chip.mark && counter_of(&bench.chip) == 0;
+}
+
+static int travel_is(const struct kit *kit, int32_t closed, int32_t opened, int32_t wanted)
+{
+    uint8_t record[32], length, empty;
+    int32_t a, b, travel;
+
+    return kit->record_write(record, 32, closed, opened, (const uint8_t *)"", 0) == 0
+        && kit->record_read(record, 32, &a, &b, &travel, &length, &empty) == 0
+        && a == closed && b == opened && travel == wanted && length == 0 && empty == 0;
+}
+
+/* 2. Closed 150, open -200: travel -350. Ends: -60,000 and 60,000. */
+static int case_2(const struct kit *kit)
+{
+    return travel_is(kit, 150, -200, -350) && travel_is(kit, 30000, -30000, -60000)
+        && travel_is(kit, -30000, 30000, 60000);
+}
+
+/* 3. -30,000 is 8AD0h, -1 is FFFFh; 30,001 refused 10. */
+static int case_3(const struct kit *kit)
+{
+    static const uint8_t limits[4] = { 0x8a, 0xd0, 0xff, 0xff };
+    uint8_t record[32];
+
+    return kit->record_write(record, 32, -30000, -1, (const uint8_t *)"", 0) == 0
+        && memcmp(record, limits, 4) == 0
+        && kit->record_write(record, 32, 30001, 0, (const uint8_t *)"", 0) == 10
+        && kit->record_write(record, 32, 0, -30001, (const uint8_t *)"", 0) == 10;
+}
+
+/* 4. Closed 0, open 1,200, "NORTH". */
+static int case_4(const struct kit *kit)
+{
+    static const uint8_t head[11] = { 0, 0, 0x04, 0xb0, 0xa5, 5, 0x4e, 0x4f, 0x52, 0x54, 0x48 };
+    uint8_t record[32], wanted[32];
+
+    memset(wanted, 0x20, sizeof wanted);
+    memcpy(wanted, head, sizeof head);
+    wanted[30] = 0x05;
+    wanted[31] = 0x49;
+    return kit->record_write(record, 32, 0, 1200, (const uint8_t *)"NORTH", 5) == 0 && memcmp(record, wanted, 32) == 0;
+}
+
+/* 5. Label of 24 taken, 25 refused 8. */
+static int case_5(const struct kit *kit)
+{
+    static const uint8_t label[] = "ABCDEFGHIJKLMNOPQRSTUVWXYZ";
+    uint8_t record[32], before[32];
+
+    memset(record, 0x55, 32);
+    memset(before, 0x55, 32);
+    return kit->record_write(record, 32, 0, 1, label, 25) == 8 && memcmp(record, before, 32) == 0
+        && kit->record_write(record, 32, 0, 1, label, 24) == 0 && record[29] == 'X';
+}
+
+/* 6. X24128, unlocked, PEL 1, 27 bytes at 0006h: bytes 6-31 and byte 0 change, counter 0001h. */
+static int case_6(const struct kit *kit)
+{
+    static uint8_t wanted[CREP_ARRAY];
+
+    memset(wanted, 0xff, sizeof wanted);
+    memset(wanted + 6, 0, 26);
+    wanted[0] = 0;
+    return notes_of_writes(kit, 0, 0, 6, 27) == 1 && memcmp(bench.array, wanted, CREP_ARRAY) == 0
+        && counter_of(&bench.chip) == 1 && bench.chip.busy;
+}
+
+/* 7. X24F128: 31 bytes note 5, 32 note 1, 33 note 5. */
+static int case_7(const struct kit *kit)
+{
+    return notes_of_writes(kit, 1, 0, 0, 31) == 5 && bench.array[0] == 0xff
+        && notes_of_writes(kit, 1, 0, 0, 32) == 1 && bench.array[31] == 0 && bench.array[32] == 0xff
+        && notes_of_writes(kit, 1, 0, 0, 33) == 5 && bench.array[0] == 0xff;
+}
+
+/* 8. BL 1 locks 3000h and not 2FFFh; BL 2 locks 2000h and not 1FFFh. */
+static int case_8(const struct kit *kit)
+{
+    int part, good = 1;
+
+    for (part = 0; part < 2; part++)
+        good = good && notes_of_writes(kit, (uint8_t)part, 1, 0x3000, 32) == 4 && bench.array[0x3000] == 0xff
+            && notes_of_writes(kit, (uint8_t)part, 1, 0x2fff, 32) == 1
+            && notes_of_writes(kit, (uint8_t)part, 2, 0x2000, 32) == 4
+            && notes_of_writes(kit, (uint8_t)part, 2, 0x1fff, 32) == 1
+            && notes_of_writes(kit, (uint8_t)part, 3, 0x0000, 32) == 4
+            && notes_of_writes(kit, (uint8_t)part, 0, 0x3fe0, 32) == 1;
+    return good;
+}
+
+/* 9. Register 06h with PEL 0: note 6. */
+static int case_9(const struct kit *kit)
+{
+    open_bench(kit, 0);
+    wire_register(&bench.wire, 0, 0x06);
+    return last_note() == 6 && bench.chip.rpel == 0 && bench.chip.mark == 0;
+}
+
+/* 10. Read at 3FFFh, then 0000h. */
+static int case_10(const struct kit *kit)
+{
+    size_t end;
+
+    open_bench(kit, 0);
+    bench.array[0x3fff] = 0x5a;
+    bench.array[0x0000] = 0xc3;
+    wire_read(&bench.wire, 0, 0x3fff, 2);
+    end = bench.wire.len - 3;
+    return last_note() == 0 && byte_at(end - 36) == 0x5a && byte_at(end - 18) == 0xc3 && counter_of(&bench.chip) == 1;
+}
+
+/* The pulses of a chip stopped in the acknowledge of A1h, with the byte at the counter 00h. */
+static int pulses_in_acknowledge(const struct kit *kit, int scl)
+{
+    uint8_t pulses;
+
+    open_bench(kit, 0);
+    bench.array[0] = 0x00;
+    wire_start(&bench.wire);
+    wire_send(&bench.wire, 0xa1);
+    bench.wire.len -= scl ? 0 : 1;
+    if (last_note() != 0 || kit->recover(&bench.chip, bench.array, CREP_ARRAY, 0, &pulses) != 0)
+        return -1;
+    return bench.chip.place == 1 && bench.chip.bits == 0 ? pulses : -1;
+}
+
+/* 11. Stopped with SCL low: 10 pulses. */
+static int case_11(const struct kit *kit)
+{
+    return pulses_in_acknowledge(kit, 0) == 10;
+}
+
+/* 12. The same, stopped with SCL high: 9. */
+static int case_12(const struct kit *kit)
+{
+    return pulses_in_acknowledge(kit, 1) == 9;
+}
+
+/* 13. 9, the message that sets PEL: 78 events, note 3 at 77 and no other. */
+static int case_13(const struct kit *kit)
+{
+    size_t i;
+
+    open_bench(kit, 0);
+    wire_event(&bench.wire, 9);
+    wire_register(&bench.wire, 0, 0x02);
+    if (bench.wire.len != 78 || last_note() != 3)
+        return 0;
+    for (i = 0; i < 77; i++)
+        if (CREP_NOTE(bench.answers[i]) != 0)
+            return 0;
+    return bench.chip.pel == 1;
+}
+
+/* A STOP with no bit received writes nothing; with exactly one it ends the write. */
+static int stop_needs_one_bit(const struct kit *kit)
+{
+    open_bench(kit, 0);
+    bench.chip.pel = 1;
+    bench.chip.place = 4;
+    bench.chip.count = bench.chip.places[0] = 1;
+    bench.chip.scl = 1;
+    bench.chip.line = 0;
+    wire_sample(&bench.wire, 1, 1);
+    return last_note() == 7 && bench.array[0] == 0xff && notes_of_writes(kit, 0, 0, 0, 1) == 1;
+}
+
+/* The pin counts at the STOP, not when PPEN was set: low in the data, high in the last sample. */
+static int pin_at_the_stop(const struct kit *kit, int at_stop)
+{
+    open_bench(kit, 0);
+    bench.chip.ppen = bench.chip.rpel = bench.chip.pel = 1;
+    bench.wire.pin = !at_stop;
+    wire_register(&bench.wire, 0, 0x02);
+    bench.trace[bench.wire.len - 1] = (uint8_t)(3 | at_stop << 2);
+    return last_note();
+}
+
+static int pin_is_read_at_the_stop(const struct kit *kit)
+{
+    return pin_at_the_stop(kit, 1) == 6 && pin_at_the_stop(kit, 0) == 2;
+}
+
+/* Random events with the pin high; power-ups among them. */
+static void noise(struct chance *chance, size_t n)
+{
+    size_t i;
+
+    for (i = 0; i < n; i++)
+        wire_event(&bench.wire, (uint8_t)(chance_once_in(chance, 500) ? 8 + chance_below(chance, 2)
+                                                                         : 4 + chance_below(chance, 4)));
+}
+
+/* Messages that try to unlock and to write, with the pin high, each with its program-done. */
+static void attack(struct chance *chance)
+{
+    static const uint8_t commands[] = { 0x02, 0x06, 0x02 };
+    static const uint8_t bytes[32] = { 0 };
+    int i, k;
+
+    bench.wire.pin = 1;
+    for (i = 0; i < 4; i++) {
+        for (k = 0; k < 3; k++) {
+            wire_register(&bench.wire, bench.chip.select, commands[k]);
+            wire_event(&bench.wire, 8);
+        }
+        wire_write(&bench.wire, bench.chip.select, chance_below(chance, 0x4000), bytes, 32);
+        wire_event(&bench.wire, 8);
+        noise(chance, chance_below(chance, 40));
+    }
+}
+
+/* A chip with PPEN set and a region locked, and its noise. Returns the first locked address. */
+static unsigned noisy_bench(const struct kit *kit, struct chance *chance)
+{
+    static const unsigned first[4] = { 0x4000, 0x3000, 0x2000, 0x0000 };
+
+    open_bench(kit, (uint8_t)chance_below(chance, 2));
+    bench.chip.select = (uint8_t)chance_below(chance, 8);
+    bench.chip.ppen = 1;
+    bench.chip.bl = (uint8_t)(1 + chance_below(chance, 3));
+    chance_fill(chance, bench.array, CREP_ARRAY);
+    attack(chance);
+    noise(chance, chance_below(chance, 2000));
+    return first[bench.chip.bl];
+}
+
+/* A random read that goes on from the START that the recovery has made, pin free. */
+static int read_on(unsigned address, unsigned n)
+{
+    wire_open(&bench.wire, bench.trace, sizeof bench.trace);
+    wire_read(&bench.wire, bench.chip.select, address, n);
+    bench.wire.len -= 2;
+    memmove(bench.trace, bench.trace + 2, bench.wire.len);
+    return last_note() >= 0;
+}
+
+/* Demand 3: after any noise a recovery of at most ten pulses, and a random read gives the bytes held before. */
+static int one_demand_3(const struct kit *kit, struct chance *chance)
+{
+    static uint8_t before[CREP_ARRAY];
+    uint8_t pulses, answer;
+    unsigned first = noisy_bench(kit, chance), n = 1 + chance_below(chance, 8), i;
+    unsigned address = first + chance_below(chance, 0x4000 - first - n + 1);
+
+    memcpy(before, bench.array, CREP_ARRAY);
+    if (last_note() < 0 || kit->event(&bench.chip, bench.array, CREP_ARRAY, 8, &answer) != 0)
+        return 0;
+    if (kit->recover(&bench.chip, bench.array, CREP_ARRAY, 1, &pulses) != 0 || pulses < 1 || pulses > 10)
+        return 0;
+    if (!read_on(address, n))
+        return 0;
+    for (i = 0; i < n; i++)
+        if (byte_at(bench.wire.len - 3 - 18 * (n - i)) != before[address + i])
+            return 0;
+    return memcmp(bench.array + first, before + first, CREP_ARRAY - first) == 0;
+}
+
+static int demand_3(const struct kit *kit)
+{
+    struct chance chance = { 3 };
+    int i;
+
+    for (i = 0; i < 500; i++)
+        if (!one_demand_3(kit, &chance))
+            return 0;
+    return 1;
+}
+
+static const struct {
+    const char *text;
+    int (*holds)(const struct kit *);
+} cases[] = {
+    { "1   PPEN 1, BL 3, PEL 1 reads 9Ah", case_1 },
+    { "2   travel -350, -60,000 and 60,000", case_2 },
+    { "3   -30,000 is 8AD0h, -1 is FFFFh, 30,001 refused", case_3 },
+    { "4   the record of NORTH", case_4 },
+    { "5   label of 24 taken, 25 refused", case_5 },
+    { "6   27 bytes at 0006h reach byte 0", case_6 },
+    { "7   X24F128: 31, 32, 33 bytes", case_7 },
+    { "8   BL 1 and BL 2 at their edges", case_8 },
+    { "9   register 06h with PEL 0", case_9 },
+    { "10  read at 3FFFh, then 0000h", case_10 },
+    { "11  stopped with SCL low: 10 pulses", case_11 },
+    { "12  stopped with SCL high: 9 pulses", case_12 },
+    { "13  the message that sets PEL, note 3 at 77", case_13 },
+    { "-   a STOP needs exactly one bit", stop_needs_one_bit },
+    { "-   the pin is read at the STOP", pin_is_read_at_the_stop },
+    { "-   demand 3 on 500 random noises", demand_3 },
+};
+
+int main(void)
+{
+    size_t i;
+    int failed = 0;
+
+    printf("%-52s %-7s %s\n", "worked case", "model", "library");
+    for (i = 0; i < sizeof cases / sizeof cases[0]; i++) {
+        int model = cases[i].holds(&kit_model);
+        int library = cases[i].holds(&kit_library);
+
+        printf("%-52s %-7s %s\n", cases[i].text, model ? "ok" : "WRONG", library ? "ok" : "WRONG");
+        failed += !model + !library;
+    }
+    printf("%d wrong\n", failed);
+    return failed != 0;
+}

@@ -1,0 +1,16 @@
+/* The parts of the comparison. Each compares one call on random input; 0 where both agree, 1 after a report. */
+#ifndef COMPARE_H
+#define COMPARE_H
+
+#include "chance.h"
+
+int compare_new(void);                                  /* every part and select byte */
+int compare_events(struct chance *chance);              /* a trace, event by event, then whole */
+int compare_chips(struct chance *chance);               /* one event on a random chip, in range or not */
+int compare_traces(struct chance *chance);              /* traces that ask to be refused */
+int compare_recovery(struct chance *chance);
+int compare_record_write(struct chance *chance);
+int compare_record_read(struct chance *chance);
+int compare_name(struct chance *chance);
+
+#endif

@@ -1,0 +1,674 @@
+/*
+ * The chip and the records in plain C, rule by rule from the scope paper. It is meant to be read beside the paper,
+ * not to be fast. Comments name the paper's section; "reading" marks a point on which the paper is silent.
+ */
+#include "model.h"
+
+#include <string.h>
+
+/* Where the chip is in a transfer; the numbers are those of the C interface. */
+enum place {
+    STANDBY,
+    GET_SLAVE, GET_HIGH, GET_LOW, GET_DATA,
+    ACK_WRITE, ACK_READ, ACK_HIGH, ACK_DATA,
+    SENDING, WAITING, AGAIN
+};
+
+enum note { QUIET, ARRAY_CYCLE, REGISTER_CYCLE, LATCHED, LOCKED, SHORT_LOAD, NOT_TAKEN, DROPPED };
+
+/* "What a rightly placed STOP does": first locked address for each part and BL, 4000h for none. */
+static const unsigned first_locked[2][4] = {
+    { 0x4000, 0x3000, 0x2000, 0x0000 },
+    { 0x4000, 0x3000, 0x2000, 0x0000 },
+};
+
+/* ---- What a chip carries ---- */
+
+static unsigned counter_of(const struct crep_chip *c)
+{
+    return c->counter_high * 256u + c->counter_low;
+}
+
+static void set_counter(struct crep_chip *c, unsigned address)
+{
+    c->counter_high = (uint8_t)(address / 256);
+    c->counter_low = (uint8_t)(address % 256);
+}
+
+static int receives(const struct crep_chip *c)
+{
+    return c->place >= GET_SLAVE && c->place <= GET_DATA;
+}
+
+/* A place begins with nothing received, nothing to send and no kept address byte. */
+static void go(struct crep_chip *c, enum place place)
+{
+    c->place = (uint8_t)place;
+    c->bits = 0;
+    c->byte = 0;
+    c->high = 0;
+}
+
+/* C interface: what the place does not carry comes back as 0. */
+static void tidy(struct crep_chip *c)
+{
+    int has_bits = receives(c) || c->place == SENDING;
+
+    if (!has_bits) {
+        c->bits = 0;
+        c->byte = 0;
+    }
+    if (c->place != GET_LOW && c->place != ACK_HIGH)
+        c->high = 0;
+}
+
+/* An empty load is zeros, no place, count 0. */
+static void empty_load(struct crep_chip *c)
+{
+    c->count = 0;
+    memset(c->places, 0, sizeof c->places);
+    memset(c->load, 0, sizeof c->load);
+}
+
+/* A load exists when its count is 1 or more (reading). */
+static enum note drop_load(struct crep_chip *c)
+{
+    enum note note = c->count > 0 ? DROPPED : QUIET;
+
+    empty_load(c);
+    return note;
+}
+
+/* ---- Refusals and what they return ---- */
+
+static int flags_good(const struct crep_chip *c)
+{
+    int i;
+
+    for (i = 0; i < 32; i++)
+        if (c->places[i] > 1)
+            return 0;
+    return c->ppen <= 1 && c->rpel <= 1 && c->pel <= 1 && c->mark <= 1 && c->busy <= 1 && c->scl <= 1 && c->line <= 1;
+}
+
+/* Bits received and the bit being sent are looked at only where the place carries them (reading). */
+static int place_good(const struct crep_chip *c)
+{
+    if (c->place > AGAIN)
+        return 0;
+    if (receives(c))
+        return c->bits <= 8;
+    if (c->place == SENDING)
+        return c->bits <= 7;
+    return 1;
+}
+
+static int chip_good(const struct crep_chip *c)
+{
+    return c->part <= 1 && c->select <= 7 && c->bl <= 3 && counter_of(c) <= 0x3fff && c->count <= 33
+        && flags_good(c) && place_good(c);
+}
+
+/* Refusals 1 and 2, which one event, a trace and recovery check first. */
+static uint8_t refuse_chip(const struct crep_chip *c, size_t array_len)
+{
+    if (array_len != 16384)
+        return 1;
+    return chip_good(c) ? 0 : 2;
+}
+
+/* ---- Samples and edges ---- */
+
+/* In an acknowledge, and while the bit sent is 0. A busy chip does not pull. */
+static int pulls(const struct crep_chip *c)
+{
+    if (c->busy)
+        return 0;
+    if (c->place >= ACK_WRITE && c->place <= ACK_DATA)
+        return 1;
+    return c->place == SENDING && (c->byte >> c->bits & 1) == 0;
+}
+
+/* ---- Transfers ---- */
+
+static enum note on_start(struct crep_chip *c)
+{
+    go(c, GET_SLAVE);
+    return drop_load(c);
+}
+
+/* A bit is sampled, the most significant first; a ninth has no rule. */
+static void on_rise(struct crep_chip *c, int bit)
+{
+    if (receives(c) && c->bits < 8) {
+        c->byte = (uint8_t)(c->byte * 2 + bit);
+        c->bits++;
+    } else if (c->place == WAITING) {
+        go(c, bit ? STANDBY : AGAIN);
+    }
+}
+
+/* 1010, S2 S1 S0, R/W. */
+static void take_slave(struct crep_chip *c, uint8_t byte)
+{
+    int named = byte >> 4 == 0xa && (byte >> 1 & 7) == c->select;
+
+    if (!named)
+        go(c, STANDBY);
+    else
+        go(c, byte & 1 ? ACK_READ : ACK_WRITE);
+}
+
+/* FFFFh sets the mark and leaves the counter; any other address clears it and sets the counter. */
+static void take_address(struct crep_chip *c, uint8_t high, uint8_t low)
+{
+    unsigned address = high * 256u + low;
+
+    c->mark = address == 0xffff;
+    if (!c->mark)
+        set_counter(c, address % 16384);
+    go(c, ACK_DATA);
+}
+
+/* Stored at the counter's low five bits, which rise and wrap; the rest of the counter stays. */
+static void load_byte(struct crep_chip *c, uint8_t byte)
+{
+    unsigned counter = counter_of(c);
+    unsigned at = counter % 32;
+
+    c->load[at] = byte;
+    c->places[at] = 1;
+    if (c->count < 33)
+        c->count++;
+    set_counter(c, counter - at + (at + 1) % 32);
+}
+
+/* With the mark: the first byte is kept at place 0, a second drops the load. PEL is not asked (reading). */
+static enum note take_register_data(struct crep_chip *c, uint8_t byte)
+{
+    if (c->count > 0) {
+        go(c, STANDBY);
+        return drop_load(c);
+    }
+    c->load[0] = byte;
+    c->places[0] = 1;
+    c->count = 1;
+    go(c, ACK_DATA);
+    return QUIET;
+}
+
+static enum note take_data(struct crep_chip *c, uint8_t byte)
+{
+    if (c->mark)
+        return take_register_data(c, byte);
+    if (!c->pel) {
+        go(c, STANDBY);
+        return QUIET;
+    }
+    load_byte(c, byte);
+    go(c, ACK_DATA);
+    return QUIET;
+}
+
+/* A whole byte is taken at the fall after its eighth bit. */
+static enum note take_byte(struct crep_chip *c)
+{
+    uint8_t byte = c->byte;
+    uint8_t high = c->high;
+
+    switch (c->place) {
+    case GET_SLAVE:
+        take_slave(c, byte);
+        return QUIET;
+    case GET_HIGH:
+        go(c, ACK_HIGH);
+        c->high = byte;
+        return QUIET;
+    case GET_LOW:
+        take_address(c, high, byte);
+        return QUIET;
+    default:
+        return take_data(c, byte);
+    }
+}
+
+/* PPEN 0 0 BL1 BL0 RPEL PEL 0 */
+static uint8_t register_byte(const struct crep_chip *c)
+{
+    return (uint8_t)(c->ppen << 7 | c->bl << 3 | c->rpel << 2 | c->pel << 1);
+}
+
+/* The byte is taken at the fall of bit 7; the mark decides which. */
+static void begin_sending(struct crep_chip *c, const uint8_t *array)
+{
+    uint8_t byte = c->mark ? register_byte(c) : array[counter_of(c)];
+
+    go(c, SENDING);
+    c->bits = 7;
+    c->byte = byte;
+}
+
+/* One bit each fall; after bit 0 the array goes on to the master's bit, the register is read once. */
+static void send_on(struct crep_chip *c)
+{
+    if (c->bits > 0) {
+        c->bits--;
+    } else if (c->mark) {
+        set_counter(c, 0);
+        c->mark = 0;
+        go(c, STANDBY);
+    } else {
+        set_counter(c, (counter_of(c) + 1) % 16384);
+        go(c, WAITING);
+    }
+}
+
+/* The fall that ends an acknowledge leads to the next byte. */
+static enum note on_fall(struct crep_chip *c, const uint8_t *array)
+{
+    uint8_t high = c->high;
+
+    if (receives(c))
+        return c->bits == 8 ? take_byte(c) : QUIET;
+    switch (c->place) {
+    case ACK_WRITE:
+        go(c, GET_HIGH);
+        break;
+    case ACK_HIGH:
+        go(c, GET_LOW);
+        c->high = high;
+        break;
+    case ACK_DATA:
+        go(c, GET_DATA);
+        break;
+    case ACK_READ:
+    case AGAIN:
+        begin_sending(c, array);
+        break;
+    case SENDING:
+        send_on(c);
+        break;
+    default:
+        break;
+    }
+    return QUIET;
+}
+
+/* ---- What a rightly placed STOP does ---- */
+
+static enum note write_array(struct crep_chip *c, uint8_t *array)
+{
+    unsigned sector = counter_of(c) / 32 * 32;
+    unsigned i;
+
+    if (c->part == 1 && c->count != 32)
+        return SHORT_LOAD;
+    if (sector >= first_locked[c->part][c->bl])
+        return LOCKED;
+    for (i = 0; i < 32; i++)
+        if (c->places[i])
+            array[sector + i] = c->load[i];
+    c->busy = 1;
+    c->rpel = 0;
+    return ARRAY_CYCLE;
+}
+
+/* Rule 2: with RPEL 0 a register byte only sets and clears the two latches. */
+static enum note write_latches(struct crep_chip *c, uint8_t byte)
+{
+    if (byte == 0x00)
+        c->pel = 0;
+    else if (byte == 0x02)
+        c->pel = 1;
+    else if (byte == 0x06 && c->pel)
+        c->rpel = 1;
+    else
+        return NOT_TAKEN;
+    return LATCHED;
+}
+
+/* Rules 1 to 3. The pin counts in this sample, with PPEN as it was before the byte. */
+static enum note write_register(struct crep_chip *c, uint8_t byte, int pin)
+{
+    if (byte & 0x61)
+        return NOT_TAKEN;
+    if (!c->rpel)
+        return write_latches(c, byte);
+    if ((byte & 7) != 2 || (c->ppen && pin))
+        return NOT_TAKEN;
+    c->ppen = byte >> 7;
+    c->bl = byte >> 3 & 3;
+    c->rpel = 0;
+    c->busy = 1;
+    return REGISTER_CYCLE;
+}
+
+static enum note placed_stop(struct crep_chip *c, uint8_t *array, int pin)
+{
+    enum note note;
+
+    if (c->count == 0)
+        return QUIET;
+    if (!c->mark)
+        return write_array(c, array);
+    note = write_register(c, c->load[0], pin);
+    set_counter(c, 0);
+    c->mark = 0;
+    return note;
+}
+
+/* Rightly placed: in the data place with exactly the one bit that the clock's rise before the STOP brings. */
+static enum note on_stop(struct crep_chip *c, uint8_t *array, int pin)
+{
+    int placed = c->place == GET_DATA && c->bits == 1;
+    enum note note;
+
+    go(c, STANDBY);
+    if (!placed)
+        return drop_load(c);
+    note = placed_stop(c, array, pin);
+    empty_load(c);
+    return note;
+}
+
+/* ---- One event ---- */
+
+/* The sample is judged with the pull before it; a changing clock hides what the line does. */
+static enum note on_edge(struct crep_chip *c, uint8_t *array, int scl, int line, int pin)
+{
+    if (c->scl && scl && c->line && !line)
+        return on_start(c);
+    if (c->scl && scl && !c->line && line)
+        return on_stop(c, array, pin);
+    if (!c->scl && scl)
+        on_rise(c, line);
+    if (c->scl && !scl)
+        return on_fall(c, array);
+    return QUIET;
+}
+
+/* The line kept has the pull after the event. */
+static enum note on_sample(struct crep_chip *c, uint8_t *array, int scl, int sda, int pin)
+{
+    enum note note = QUIET;
+
+    if (!c->busy)
+        note = on_edge(c, array, scl, sda && !pulls(c), pin);
+    c->scl = (uint8_t)scl;
+    c->line = sda && !pulls(c);
+    return note;
+}
+
+static void power_up(struct crep_chip *c)
+{
+    c->busy = 0;
+    c->pel = 0;
+    c->rpel = 0;
+    set_counter(c, 0);
+    c->mark = 0;
+    empty_load(c);
+    go(c, STANDBY);
+    c->scl = 0;
+    c->line = 1;
+}
+
+/* One event byte in 0-9; returns the answer byte. */
+static uint8_t one_event(struct crep_chip *c, uint8_t *array, uint8_t event)
+{
+    enum note note = QUIET;
+
+    if (event == 9)
+        power_up(c);
+    else if (event == 8)
+        c->busy = 0;
+    else
+        note = on_sample(c, array, event & 1, event >> 1 & 1, event >> 2 & 1);
+    return (uint8_t)(c->line | note << 1);
+}
+
+/* ---- The entries ---- */
+
+/* A new chip has PPEN 0 and BL 0 and is at power-up; the standard chip is the X24128 with select 0. */
+uint8_t model_new(struct crep_chip *chip, uint8_t part, uint8_t select)
+{
+    int refused = part > 1 || select > 7;
+
+    memset(chip, 0, sizeof *chip);
+    power_up(chip);
+    if (refused)
+        return 3;
+    chip->part = part;
+    chip->select = select;
+    return 0;
+}
+
+uint8_t model_step(struct crep_chip *chip, uint8_t *array, uint8_t event)
+{
+    return one_event(chip, array, event);
+}
+
+uint8_t model_event(struct crep_chip *chip, uint8_t *array, size_t array_len, uint8_t event, uint8_t *answer)
+{
+    uint8_t refusal = refuse_chip(chip, array_len);
+
+    *answer = 1;
+    if (refusal)
+        return refusal;
+    if (event > 9)
+        return 6;
+    tidy(chip);
+    *answer = one_event(chip, array, event);
+    return 0;
+}
+
+/* Refusals 4, 5 and 6 of a trace. */
+static uint8_t refuse_trace(const uint8_t *trace, size_t trace_len, size_t answers_len)
+{
+    size_t i;
+
+    if (trace_len > 65536)
+        return 4;
+    if (answers_len < trace_len)
+        return 5;
+    for (i = 0; i < trace_len; i++)
+        if (trace[i] > 9)
+            return 6;
+    return 0;
+}
+
+uint8_t model_run(struct crep_chip *chip, uint8_t *array, size_t array_len,
+                  const uint8_t *trace, size_t trace_len, uint8_t *answers, size_t answers_len)
+{
+    uint8_t refusal = refuse_chip(chip, array_len);
+    size_t i;
+
+    if (!refusal)
+        refusal = refuse_trace(trace, trace_len, answers_len);
+    if (refusal)
+        return refusal;
+    tidy(chip);
+    for (i = 0; i < trace_len; i++)
+        answers[i] = one_event(chip, array, trace[i]);
+    return 0;
+}
+
+/* Pulse at least once, look after the high half, then make a START. The pin plays no part: no STOP can come. */
+uint8_t model_recover(struct crep_chip *chip, uint8_t *array, size_t array_len, uint8_t pin, uint8_t *pulses)
+{
+    uint8_t refusal = refuse_chip(chip, array_len);
+    int level = pin != 0;
+
+    *pulses = 0;
+    if (refusal)
+        return refusal;
+    tidy(chip);
+    do {
+        on_sample(chip, array, 0, 1, level);
+        on_sample(chip, array, 1, 1, level);
+        ++*pulses;
+    } while (!chip->line && *pulses < 10);
+    on_sample(chip, array, 1, 0, level);
+    return 0;
+}
+
+/* ---- Gate records ---- */
+
+enum { CLOSED = 0, OPENED = 2, STATE = 4, LENGTH = 5, LABEL = 6, SUM = 30, RECORD = 32, LONGEST = 24 };
+
+static int label_byte(uint8_t byte)
+{
+    return byte >= 0x20 && byte <= 0x7e;
+}
+
+static int limit_good(int32_t limit)
+{
+    return limit >= -30000 && limit <= 30000;
+}
+
+static unsigned sum_of(const uint8_t *record)
+{
+    unsigned sum = 0;
+    int i;
+
+    for (i = 0; i < SUM; i++)
+        sum += record[i];
+    return sum;
+}
+
+static unsigned get_pair(const uint8_t *at)
+{
+    return at[0] * 256u + at[1];
+}
+
+static void put_pair(uint8_t *at, unsigned value)
+{
+    at[0] = (uint8_t)(value >> 8);
+    at[1] = (uint8_t)value;
+}
+
+/* Two's complement in 16 bits. */
+static int32_t get_limit(const uint8_t *at)
+{
+    int32_t value = (int32_t)get_pair(at);
+
+    return value < 32768 ? value : value - 65536;
+}
+
+static int all_label(const uint8_t *label, size_t len)
+{
+    size_t i;
+
+    for (i = 0; i < len; i++)
+        if (!label_byte(label[i]))
+            return 0;
+    return 1;
+}
+
+static uint8_t refuse_record(size_t record_len, int32_t closed, int32_t opened, const uint8_t *label, size_t label_len)
+{
+    if (record_len != RECORD)
+        return 7;
+    if (label_len > LONGEST)
+        return 8;
+    if (!all_label(label, label_len))
+        return 9;
+    if (!limit_good(closed) || !limit_good(opened))
+        return 10;
+    return closed == opened ? 11 : 0;
+}
+
+uint8_t model_record_write(uint8_t *record, size_t record_len, int32_t closed, int32_t opened,
+                           const uint8_t *label, size_t label_len)
+{
+    uint8_t refusal = refuse_record(record_len, closed, opened, label, label_len);
+    size_t i;
+
+    if (refusal)
+        return refusal;
+    put_pair(record + CLOSED, (unsigned)closed & 0xffff);
+    put_pair(record + OPENED, (unsigned)opened & 0xffff);
+    record[STATE] = 0xa5;
+    record[LENGTH] = (uint8_t)label_len;
+    for (i = 0; i < LONGEST; i++)
+        record[LABEL + i] = i < label_len ? label[i] : 0x20;
+    put_pair(record + SUM, sum_of(record));
+    return 0;
+}
+
+static int is_free(const uint8_t *record)
+{
+    int i;
+
+    for (i = 0; i < RECORD; i++)
+        if (record[i] != 0xff)
+            return 0;
+    return 1;
+}
+
+/* Refusal 14: length, label, padding, limits. */
+static int layout_good(const uint8_t *record)
+{
+    int32_t closed = get_limit(record + CLOSED);
+    int32_t opened = get_limit(record + OPENED);
+    size_t length = record[LENGTH];
+    size_t i;
+
+    if (length > LONGEST || !all_label(record + LABEL, length))
+        return 0;
+    for (i = length; i < LONGEST; i++)
+        if (record[LABEL + i] != 0x20)
+            return 0;
+    return limit_good(closed) && limit_good(opened) && closed != opened;
+}
+
+enum reading { GOOD = 0, BAD_SIZE = 7, BAD_STATE = 12, BAD_SUM = 13, BAD_LAYOUT = 14, FREE = 100 };
+
+/* 7, then free, then 12, 13, 14. */
+static enum reading read_record(const uint8_t *record, size_t record_len)
+{
+    if (record_len != RECORD)
+        return BAD_SIZE;
+    if (is_free(record))
+        return FREE;
+    if (record[STATE] != 0xa5)
+        return BAD_STATE;
+    if (get_pair(record + SUM) != sum_of(record))
+        return BAD_SUM;
+    return layout_good(record) ? GOOD : BAD_LAYOUT;
+}
+
+uint8_t model_record_read(const uint8_t *record, size_t record_len, int32_t *closed, int32_t *opened,
+                          int32_t *travel, uint8_t *label_len, uint8_t *free_record)
+{
+    enum reading reading = read_record(record, record_len);
+
+    *closed = *opened = *travel = 0;
+    *label_len = 0;
+    *free_record = reading == FREE;
+    if (reading == FREE)
+        return 0;
+    if (reading != GOOD)
+        return (uint8_t)reading;
+    *closed = get_limit(record + CLOSED);
+    *opened = get_limit(record + OPENED);
+    *travel = *opened - *closed;
+    *label_len = record[LENGTH];
+    return 0;
+}
+
+/* The label without its trailing spaces; the standard label where the record is free, refused or blank. */
+uint8_t model_name(const uint8_t *record, size_t record_len, const uint8_t *standard, size_t standard_len,
+                   size_t *start, size_t *len, uint8_t *from_record)
+{
+    size_t n = 0;
+
+    (void)standard;
+    if (read_record(record, record_len) == GOOD)
+        n = record[LENGTH];
+    while (n > 0 && record[LABEL + n - 1] == 0x20)
+        n--;
+    *from_record = n > 0;
+    *start = n > 0 ? LABEL : 0;
+    *len = n > 0 ? n : standard_len;
+    return 0;
+}

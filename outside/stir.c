@@ -1,0 +1,369 @@
+#include "stir.h"
+
+#include <string.h>
+
+#define COUNT(list) (sizeof(list) / sizeof((list)[0]))
+#define ONE_OF(chance, list) chance_of(chance, list, COUNT(list))
+
+/* ---- Chips ---- */
+
+static uint8_t flag(struct chance *chance)
+{
+    return (uint8_t)chance_below(chance, 2);
+}
+
+/* A slave byte that names the chip, or one that misses it by a bit. */
+static uint8_t stir_slave(struct chance *chance, int select)
+{
+    unsigned byte = 0xa0u | (unsigned)select << 1 | flag(chance);
+
+    return (uint8_t)(chance_once_in(chance, 4) ? byte ^ 1u << chance_below(chance, 8) : byte);
+}
+
+static void stir_place(struct chance *chance, struct crep_chip *chip)
+{
+    chip->place = (uint8_t)chance_below(chance, 12);
+    chip->byte = chance_byte(chance);
+    chip->high = chance_byte(chance);
+    chip->bits = chance_byte(chance);
+    if (chip->place >= 1 && chip->place <= 4)
+        chip->bits = (uint8_t)chance_below(chance, 9);
+    else if (chip->place == 9)
+        chip->bits = (uint8_t)chance_below(chance, 8);
+    else if (flag(chance))
+        chip->bits = chip->byte = chip->high = 0;
+    /* the addresses that set the mark, and slave bytes that name the chip, would be rare otherwise */
+    if (chip->place == 3 && chance_once_in(chance, 3))
+        chip->byte = chip->high = 0xff;
+    if (chip->place == 1 && flag(chance))
+        chip->byte = stir_slave(chance, chip->select);
+}
+
+static void stir_load(struct chance *chance, struct crep_chip *chip)
+{
+    static const uint32_t counts[] = { 0, 0, 1, 1, 2, 31, 32, 32, 32, 33 };
+    static const uint32_t commands[] = { 0x00, 0x02, 0x06, 0x02, 0x0a, 0x12, 0x1a, 0x82, 0x9a, 0x07, 0x42, 0x22, 0x03 };
+    int i, all = chance_once_in(chance, 3);
+
+    chip->count = (uint8_t)ONE_OF(chance, counts);
+    for (i = 0; i < 32; i++) {
+        chip->places[i] = all ? 1 : flag(chance);
+        chip->load[i] = chance_byte(chance);
+    }
+    if (chip->mark)
+        chip->load[0] = (uint8_t)ONE_OF(chance, commands);
+    if (chip->count == 0 && flag(chance)) {
+        memset(chip->places, 0, sizeof chip->places);
+        memset(chip->load, 0, sizeof chip->load);
+    }
+}
+
+void stir_chip(struct chance *chance, struct crep_chip *chip)
+{
+    static const uint32_t counters[] = { 0, 0x1fff, 0x2000, 0x2fff, 0x3000, 0x3fff, 0x3fe0, 31 };
+    uint32_t counter = flag(chance) ? chance_below(chance, 0x4000) : ONE_OF(chance, counters);
+
+    chip->part = flag(chance);
+    chip->select = (uint8_t)chance_below(chance, 8);
+    chip->ppen = flag(chance);
+    chip->bl = (uint8_t)chance_below(chance, 4);
+    chip->rpel = flag(chance);
+    chip->pel = flag(chance);
+    chip->counter_high = (uint8_t)(counter / 256);
+    chip->counter_low = (uint8_t)counter;
+    chip->mark = flag(chance);
+    chip->busy = chance_once_in(chance, 8);
+    chip->scl = flag(chance);
+    chip->line = flag(chance);
+    stir_place(chance, chip);
+    stir_load(chance, chip);
+    /* a STOP that is rightly placed, the busiest rule of all */
+    if (chance_once_in(chance, 4)) {
+        chip->place = 4;
+        chip->bits = 1;
+        chip->high = 0;
+        chip->scl = 1;
+        chip->line = 0;
+    }
+}
+
+/* A number from least to 255. */
+static uint8_t above(struct chance *chance, uint32_t least)
+{
+    return (uint8_t)(flag(chance) ? least : least + chance_below(chance, 256 - least));
+}
+
+void stir_spoil(struct chance *chance, struct crep_chip *chip)
+{
+    uint8_t *flags[] = { &chip->ppen, &chip->rpel, &chip->pel, &chip->mark, &chip->busy, &chip->scl, &chip->line };
+
+    switch (chance_below(chance, 10)) {
+    case 0: chip->part = above(chance, 2); break;
+    case 1: chip->select = above(chance, 8); break;
+    case 2: chip->bl = above(chance, 4); break;
+    case 3: chip->counter_high = above(chance, 0x40); break;
+    case 4: chip->count = above(chance, 34); break;
+    case 5: chip->place = above(chance, 12); break;
+    case 6: chip->places[chance_below(chance, 32)] = above(chance, 2); break;
+    case 7: chip->place = (uint8_t)(1 + chance_below(chance, 4)); chip->bits = above(chance, 9); break;
+    case 8: chip->place = 9; chip->bits = above(chance, 8); break;
+    default: *flags[chance_below(chance, 7)] = above(chance, 2); break;
+    }
+}
+
+void stir_array(struct chance *chance, uint8_t *array)
+{
+    if (chance_once_in(chance, 4))
+        chance_fill(chance, array, CREP_ARRAY);
+    else
+        memset(array, flag(chance) ? 0xff : chance_byte(chance), CREP_ARRAY);
+}
+
+/* ---- Traces ---- */
+
+static uint32_t stir_address(struct chance *chance)
+{
+    static const uint32_t edges[] = { 0, 6, 31, 32, 0x1fe0, 0x1fff, 0x2000, 0x2fe0, 0x2fff, 0x3000, 0x3fe0, 0x3fff,
+                                      0x4000, 0x7fff, 0xbfff, 0xc000, 0xfffe, 0xff00, 0x00ff };
+
+    if (chance_once_in(chance, 10))
+        return 0xffff;
+    return flag(chance) ? ONE_OF(chance, edges) : chance_below(chance, 0x10000);
+}
+
+static void a_command(struct chance *chance, struct wire *wire, int select)
+{
+    static const uint32_t commands[] = { 0x02, 0x02, 0x02, 0x06, 0x06, 0x00 };
+    uint32_t byte = ONE_OF(chance, commands);
+
+    if (chance_once_in(chance, 3))
+        byte = 0x02 | chance_below(chance, 4) << 3 | chance_below(chance, 2) << 7;
+    if (chance_once_in(chance, 12))
+        byte = chance_byte(chance);
+    wire_register(wire, select, (uint8_t)byte);
+}
+
+/* PEL, RPEL, then PPEN and BL. */
+static void a_locking(struct chance *chance, struct wire *wire, int select)
+{
+    uint32_t bl = chance_below(chance, 6);
+
+    wire_register(wire, select, 0x02);
+    wire_register(wire, select, 0x06);
+    wire_register(wire, select, (uint8_t)(0x02 | (bl > 3 ? 0 : bl) << 3 | chance_once_in(chance, 4) << 7));
+    wire_event(wire, 8);
+}
+
+static void a_write(struct chance *chance, struct wire *wire, int select)
+{
+    static const uint32_t sizes[] = { 0, 1, 2, 5, 26, 27, 31, 32, 32, 32, 32, 33, 34, 40, 64, 65 };
+    uint8_t bytes[65];
+
+    chance_fill(chance, bytes, sizeof bytes);
+    if (flag(chance))
+        wire_register(wire, select, 0x02);
+    wire_write(wire, select, stir_address(chance), bytes, ONE_OF(chance, sizes));
+    if (!chance_once_in(chance, 4))
+        wire_event(wire, 8);
+}
+
+static void a_read(struct chance *chance, struct wire *wire, int select)
+{
+    wire_read(wire, select, stir_address(chance), 1 + chance_below(chance, chance_once_in(chance, 8) ? 40 : 3));
+}
+
+static void a_current_read(struct chance *chance, struct wire *wire, int select)
+{
+    uint32_t n = 1 + chance_below(chance, 3), i;
+
+    wire_start(wire);
+    wire_send(wire, (uint8_t)(0xa1 | select << 1));
+    for (i = 1; i <= n; i++)
+        wire_receive(wire, i < n);
+    if (flag(chance))
+        wire_stop(wire);
+}
+
+/* Any bytes after a start, with stops and starts after any number of bits. */
+static void a_muddle(struct chance *chance, struct wire *wire, int select)
+{
+    uint32_t pieces = chance_below(chance, 8), i;
+
+    wire_start(wire);
+    wire_send(wire, chance_once_in(chance, 6) ? chance_byte(chance) : stir_slave(chance, select));
+    while (pieces-- > 0) {
+        uint32_t bits = chance_below(chance, 11);
+
+        for (i = 0; i < bits; i++)
+            wire_bit(wire, flag(chance));
+        if (chance_once_in(chance, 3))
+            wire_stop(wire);
+        else if (chance_once_in(chance, 3))
+            wire_restart(wire);
+        else
+            wire_send(wire, chance_byte(chance));
+    }
+}
+
+uint8_t stir_event(struct chance *chance)
+{
+    if (chance_once_in(chance, 40))
+        return 8;
+    if (chance_once_in(chance, 300))
+        return 9;
+    return (uint8_t)chance_below(chance, 8);
+}
+
+static void a_noise(struct chance *chance, struct wire *wire)
+{
+    uint32_t n = chance_below(chance, 30);
+
+    while (n-- > 0)
+        wire_event(wire, stir_event(chance));
+}
+
+static void a_piece(struct chance *chance, struct wire *wire, int select)
+{
+    wire->pin = chance_once_in(chance, 3);
+    if (chance_once_in(chance, 15))
+        select = (int)chance_below(chance, 8);
+    switch (chance_below(chance, 12)) {
+    case 0: case 1: a_command(chance, wire, select); break;
+    case 2: a_locking(chance, wire, select); break;
+    case 3: case 4: case 5: a_write(chance, wire, select); break;
+    case 6: case 7: a_read(chance, wire, select); break;
+    case 8: a_current_read(chance, wire, select); break;
+    case 9: a_muddle(chance, wire, select); break;
+    case 10: a_noise(chance, wire); break;
+    default: wire_event(wire, (uint8_t)(chance_once_in(chance, 8) ? 9 : 8)); break;
+    }
+}
+
+/* A piece that breaks off, as when noise comes or a program crashes. */
+static void cut(struct chance *chance, struct wire *wire, size_t from)
+{
+    if (chance_once_in(chance, 6) && wire->len > from)
+        wire->len = from + chance_below(chance, (uint32_t)(wire->len - from));
+}
+
+/* Single samples that noise has changed. */
+static void scratch(struct chance *chance, struct wire *wire, size_t from)
+{
+    size_t i;
+
+    if (!chance_once_in(chance, 6))
+        return;
+    for (i = from; i < wire->len; i++)
+        if (chance_once_in(chance, 60))
+            wire->events[i] = stir_event(chance);
+}
+
+void stir_trace(struct chance *chance, struct wire *wire, int select)
+{
+    while (wire->len < wire->room) {
+        size_t from = wire->len;
+
+        a_piece(chance, wire, select);
+        cut(chance, wire, from);
+        scratch(chance, wire, from);
+    }
+}
+
+/* ---- Records ---- */
+
+int32_t stir_limit(struct chance *chance)
+{
+    static const int32_t edges[] = { 0, 1, -1, 150, -200, 29999, 30000, 30001, -29999, -30000, -30001, 32767, 32768,
+                                     -32768, -32769, 40000, 65535, 65536, -65536, 95536, INT32_MAX, INT32_MIN };
+
+    if (flag(chance))
+        return (int32_t)chance_below(chance, 60001) - 30000;
+    if (chance_once_in(chance, 8))
+        return (int32_t)(uint32_t)chance_word(chance);
+    return edges[chance_below(chance, COUNT(edges))];
+}
+
+void stir_label(struct chance *chance, uint8_t *label, size_t n)
+{
+    static const uint32_t edges[] = { 0x1f, 0x7f, 0x00, 0xff, 0x80, 0xa0 };
+    size_t i;
+    int spaces = chance_once_in(chance, 4);
+
+    for (i = 0; i < n; i++)
+        label[i] = (uint8_t)(spaces || chance_once_in(chance, 4) ? 0x20 : 0x20 + chance_below(chance, 0x5f));
+    if (n > 0 && chance_once_in(chance, 5))
+        label[chance_below(chance, (uint32_t)n)] = (uint8_t)ONE_OF(chance, edges);
+}
+
+static void put_sum(uint8_t *record)
+{
+    unsigned sum = 0;
+    int i;
+
+    for (i = 0; i < 30; i++)
+        sum += record[i];
+    record[30] = (uint8_t)(sum >> 8);
+    record[31] = (uint8_t)sum;
+}
+
+/* A record by the layout, limits and label by chance: mostly good. */
+static void lay_out(struct chance *chance, uint8_t *record)
+{
+    uint32_t length = chance_below(chance, 25);
+    int32_t limits[2];
+    int i;
+
+    for (i = 0; i < 2; i++) {
+        limits[i] = chance_once_in(chance, 8) ? stir_limit(chance) : (int32_t)chance_below(chance, 60001) - 30000;
+        record[2 * i] = (uint8_t)((uint32_t)limits[i] >> 8);
+        record[2 * i + 1] = (uint8_t)limits[i];
+    }
+    record[4] = 0xa5;
+    record[5] = (uint8_t)length;
+    memset(record + 6, 0x20, 24);
+    stir_label(chance, record + 6, length);
+    put_sum(record);
+}
+
+static void damage(struct chance *chance, uint8_t *record)
+{
+    switch (chance_below(chance, 6)) {
+    case 0: record[chance_below(chance, 32)] = chance_byte(chance); break;
+    case 1: record[5] = (uint8_t)chance_below(chance, 40); break;
+    case 2: record[6 + chance_below(chance, 24)] = chance_byte(chance); break;
+    case 3: record[2] = record[0]; record[3] = record[1]; break;
+    case 4: record[4] ^= (uint8_t)(1u << chance_below(chance, 8)); break;
+    default: record[30 + chance_below(chance, 2)] ^= (uint8_t)(1u << chance_below(chance, 8)); break;
+    }
+    if (!chance_once_in(chance, 3))
+        put_sum(record);
+}
+
+void stir_record(struct chance *chance, uint8_t *record)
+{
+    uint32_t kind = chance_below(chance, 10);
+
+    lay_out(chance, record);
+    if (kind >= 4 && kind <= 7)
+        damage(chance, record);
+    if (kind == 8)
+        chance_fill(chance, record, 32);
+    if (kind == 9)
+        memset(record, 0xff, 32);
+    if (kind == 9 && flag(chance))
+        record[chance_below(chance, 32)] = chance_byte(chance);
+}
+
+size_t stir_length(struct chance *chance, size_t usual, size_t most)
+{
+    size_t n = usual;
+
+    switch (chance_below(chance, 16)) {
+    case 0: n = usual - 1; break;
+    case 1: n = usual + 1; break;
+    case 2: n = 0; break;
+    case 3: n = chance_below(chance, (uint32_t)most + 1); break;
+    default: break;
+    }
+    return n > most ? most : n;
+}

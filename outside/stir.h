@@ -1,0 +1,36 @@
+/* Random chips, traces and records, made so that every rule of the paper is reached often. */
+#ifndef STIR_H
+#define STIR_H
+
+#include "chance.h"
+#include "crepulanter.h"
+#include "wire.h"
+
+/* A chip in range, any place; half of the time with rubbish in the fields that its place does not carry. */
+void stir_chip(struct chance *chance, struct crep_chip *chip);
+
+/* Puts one field of a chip out of its range. */
+void stir_spoil(struct chance *chance, struct crep_chip *chip);
+
+/* An array of FFh, of one byte or of random bytes. */
+void stir_array(struct chance *chance, uint8_t *array);
+
+/* Messages for a chip with this select, good and bad, mixed with noise, until `room` events are spelt. */
+void stir_trace(struct chance *chance, struct wire *wire, int select);
+
+/* An event byte 0-9; the samples of a clock often, program-done and power-up seldom. */
+uint8_t stir_event(struct chance *chance);
+
+/* A limit, at or around an end of the range every second time. */
+int32_t stir_limit(struct chance *chance);
+
+/* Label bytes, good ones but for one in every twenty. */
+void stir_label(struct chance *chance, uint8_t *label, size_t n);
+
+/* 32 bytes: a good record, a damaged one (often with its sum put right), a free one, or rubbish. */
+void stir_record(struct chance *chance, uint8_t *record);
+
+/* A length: `usual` most times, else one beside it, 0, or another that asks for trouble. */
+size_t stir_length(struct chance *chance, size_t usual, size_t most);
+
+#endif

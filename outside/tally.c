@@ -1,0 +1,39 @@
+#include "tally.h"
+
+#include <inttypes.h>
+#include <stdio.h>
+
+struct tally tally;
+
+void tally_difference(const char *call)
+{
+    printf("DIFFERENCE in %s, after %" PRIu64 " events that agree\n", call, tally.events + tally.traced);
+    printf("  repeat it: compare -s %" PRIu64 " -r %" PRIu64 "\n", tally.seed, tally.round);
+}
+
+/* One row of counts from `first` on; returns how many are 0. */
+static int row(const char *title, const uint64_t *counts, int first, int last)
+{
+    int i, missing = 0;
+
+    printf("  %-9s", title);
+    for (i = first; i <= last; i++) {
+        printf(" %d:%" PRIu64, i, counts[i]);
+        missing += counts[i] == 0;
+    }
+    printf("\n");
+    return missing;
+}
+
+int tally_print(void)
+{
+    int missing;
+
+    printf("  %" PRIu64 " events one by one, %" PRIu64 " in traces, %" PRIu64 " recoveries, %" PRIu64 " records, %"
+           PRIu64 " names\n", tally.events, tally.traced, tally.recoveries, tally.records, tally.names);
+    missing = row("notes", tally.notes, 0, 7);
+    missing += row("refusals", tally.refusals, 0, 14);
+    missing += row("places", tally.places, 0, 11);
+    missing += row("pulses", tally.pulses, 1, 10);
+    return missing;
+}
