@@ -29,34 +29,6 @@ pub extern "C" fn crep_new(state: &mut [u8; 81], part: u8, select: u8) -> u8
     made.refusal
 }
 
-// Runs one event. Refused with 1, 2 or 6 it changes nothing, and answers that the line is high, with note 0.
-#[no_mangle]
-pub extern "C" fn crep_event(
-    state: &mut [u8; 81],
-    array: &mut [u8],
-    event: u8,
-    answer: &mut u8,
-) -> u8
-    ensures { λ r. ⌜ EventSays (now (state .entry)) (now (array .entry)) event r (now (state .exit)) (now (array .exit)) (now (answer .exit)) ⌝ }
-{
-    *answer = 1;
-    if bytes_fit(state) {
-        let chip = unpack(state);
-        let trace = [event];
-        let mut told = [1u8; 1];
-        let ran = run(chip, array, &trace, &mut told);
-        let refused = ran.refusal;
-        if refused == 0 {
-            let next = ran.chip;
-            *state = pack(next);
-            *answer = told[0];
-            return 0;
-        }
-        return refused;
-    }
-    unfit_number(&array[..])
-}
-
 // Runs a trace. Refused with 1, 2, 4, 5 or 6 it changes nothing and writes no answer.
 #[no_mangle]
 pub extern "C" fn crep_run(
@@ -79,6 +51,23 @@ pub extern "C" fn crep_run(
         return refused;
     }
     unfit_number(&array[..])
+}
+
+// Runs one event, as a trace of one. Refused with 1, 2 or 6 it changes nothing, and answers that the line is high, with note 0.
+#[no_mangle]
+pub extern "C" fn crep_event(
+    state: &mut [u8; 81],
+    array: &mut [u8],
+    event: u8,
+    answer: &mut u8,
+) -> u8
+    ensures { λ r. ⌜ EventSays (now (state .entry)) (now (array .entry)) event r (now (state .exit)) (now (array .exit)) (now (answer .exit)) ⌝ }
+{
+    let trace = [event];
+    let mut told = [1u8; 1];
+    let refused = crep_run(state, array, &trace, &mut told);
+    *answer = told[0];
+    refused
 }
 
 // Frees the bus. Refused with 1 or 2 it changes nothing and reports 0 pulses.
