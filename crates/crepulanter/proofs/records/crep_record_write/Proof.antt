@@ -10,7 +10,7 @@ returns c =
     let start = c .before .before .before .before .before .before in
     let shut = toZ-ofZ w32 (start .args .closed) (start .fits .closed) in
     let wide = toZ-ofZ w32 (start .args .opened) (start .fits .opened) in
-    (rw (shut, wide) at (c .before .before .write .ensures .0), rw (shut, wide) at (c .before .before .write .ensures .1))
+    (simp (shut, wide) at (c .before .before .write .ensures .0), simp (shut, wide) at (c .before .before .write .ensures .1))
 
 pub crep-record-write-spec : {M : Type 1} → statement M
 crep-record-write-spec = tie.close (tie.spec (λ c κs. search needs) (λ c. search needs) returns)
