@@ -1,14 +1,14 @@
 -- Bytes that fit, unpacked and packed again, are the same bytes with what their place does not carry cleared; a packed chip has
 -- nothing to clear. Assumes nothing.
 use Prim.Native.Nat.{ℕ, zero, suc, _+_, _*_, _/_, _%_, _<_, _≤_}
-use mathlib.Core.Bool.{Bool, true, false, cond, _&&_}
+use mathlib.Core.Bool.{true, cond, _&&_}
 use mathlib.Core.Path.{_≡_, refl, sym, ap, ap₂, _∙_}
 use mathlib.Core.List.{List, [], _∷_, _++_, map}
 use native.Mathlib.Omega.{arith}
 use borrow.Author.Tests.{leb-true}
-use lib.Dec.{eqb, leb}
+use lib.Dec.{leb}
 use lib.ListN.{length, getD, take, drop, length-drop, take-append-drop}
-use lib.Seq.{drop-cons, length-take-le, take-all}
+use lib.Seq.{drop-cons, take-all}
 use Rattle.gate.proofs.Truth.{and-left, and-right}
 use Rattle.chip.specs.declared.model.Chip.{Chip}
 use Rattle.crepulanter.specs.State.{row, flagOf, flagByte, placeOf, placeBytes, allFlags, headFits, bytesFit, chipOf, headOf, bytesOf}

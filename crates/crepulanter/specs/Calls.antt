@@ -15,7 +15,6 @@ use mathlib.Core.List.{List}
 use lib.Dec.{eqb, leb}
 use lib.ListN.{length}
 use Rattle.chip.specs.Event.{refusal, next, nextArray, made}
-use Rattle.chip.specs.declared.model.Chip.{Chip}
 use Rattle.recovery.specs.Recovery.{recoveryAnswer, recoveryArray}
 use Rattle.trace.specs.Bytes.{eventOf, answerByte}
 use Rattle.trace.specs.Trace.{ranOf, runArray, runAnswers}

@@ -12,56 +12,24 @@ use parts::transfer::Place;
 fn place_of(number: u8, bits: u8, byte: u8, high: u8) -> Place
     ensures { λ r. ⌜ r ≡ placeOf number bits byte high ⌝ }
 {
-    if number == 0 {
-        return Place::Standby;
-    }
-    if number == 1 {
-        return Place::Slave {
-            bits: bits,
+    match number {
+        0 => Place::Standby,
+        1 => Place::Slave { bits, got: byte },
+        2 => Place::First { bits, got: byte },
+        3 => Place::Second {
+            high,
+            bits,
             got: byte,
-        };
+        },
+        4 => Place::Data { bits, got: byte },
+        5 => Place::AckWrite,
+        6 => Place::AckRead,
+        7 => Place::AckFirst { high },
+        8 => Place::AckByte,
+        9 => Place::Sending { bit: bits, byte },
+        10 => Place::Waiting,
+        _ => Place::Next,
     }
-    if number == 2 {
-        return Place::First {
-            bits: bits,
-            got: byte,
-        };
-    }
-    if number == 3 {
-        return Place::Second {
-            high: high,
-            bits: bits,
-            got: byte,
-        };
-    }
-    if number == 4 {
-        return Place::Data {
-            bits: bits,
-            got: byte,
-        };
-    }
-    if number == 5 {
-        return Place::AckWrite;
-    }
-    if number == 6 {
-        return Place::AckRead;
-    }
-    if number == 7 {
-        return Place::AckFirst { high: high };
-    }
-    if number == 8 {
-        return Place::AckByte;
-    }
-    if number == 9 {
-        return Place::Sending {
-            bit: bits,
-            byte: byte,
-        };
-    }
-    if number == 10 {
-        return Place::Waiting;
-    }
-    Place::Next
 }
 
 // The address counter of its two bytes.

@@ -1,5 +1,4 @@
 -- `unfit_number` meets its contract. Assumes nothing.
-use borrow.Author.Needs.{needs}
 use borrow.Author.Tests.{eq-eqb, ne-eqb}
 use Rattle.crepulanter.specs.Calls.{unfit}
 use Rattle.crepulanter.proofs.chips.unfit_number.Statement.{statement}

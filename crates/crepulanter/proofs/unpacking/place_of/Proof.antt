@@ -1,6 +1,5 @@
 -- `place_of` meets its contract: each number is its line of `placeOf`. Assumes nothing.
-use borrow.Author.Needs.{needs}
-use borrow.Author.Tests.{eq-eqb, ne-eqb}
+use borrow.Author.Tests.{ne-eqb}
 use Rattle.crepulanter.specs.State.{placeOf}
 use Rattle.crepulanter.proofs.unpacking.place_of.Statement.{statement}
 use Rattle.crepulanter.proofs.unpacking.place_of.Tie as tie
@@ -10,15 +9,17 @@ unfolding placeOf
 place-of-spec =
     tie.close
     (tie.spec
-    (λ c. simp (eq-eqb _ _ (c .if1 .taken)))
-    (λ c. simp (eq-eqb _ _ (c .if2 .taken), ne-eqb _ _ (c .before .if1 .left)))
-    (λ c. simp (eq-eqb _ _ (c .if3 .taken), ne-eqb _ _ (c .before .if2 .left), ne-eqb _ _ (c .before .before .if1 .left)))
-    (λ c. simp (eq-eqb _ _ (c .if4 .taken), ne-eqb _ _ (c .before .if3 .left), ne-eqb _ _ (c .before .before .if2 .left), ne-eqb _ _ (c .before .before .before .if1 .left)))
-    (λ c. simp (eq-eqb _ _ (c .if5 .taken), ne-eqb _ _ (c .before .if4 .left), ne-eqb _ _ (c .before .before .if3 .left), ne-eqb _ _ (c .before .before .before .if2 .left), ne-eqb _ _ (c .before .before .before .before .if1 .left)))
-    (λ c. simp (eq-eqb _ _ (c .if6 .taken), ne-eqb _ _ (c .before .if5 .left), ne-eqb _ _ (c .before .before .if4 .left), ne-eqb _ _ (c .before .before .before .if3 .left), ne-eqb _ _ (c .before .before .before .before .if2 .left), ne-eqb _ _ (c .before .before .before .before .before .if1 .left)))
-    (λ c. simp (eq-eqb _ _ (c .if7 .taken), ne-eqb _ _ (c .before .if6 .left), ne-eqb _ _ (c .before .before .if5 .left), ne-eqb _ _ (c .before .before .before .if4 .left), ne-eqb _ _ (c .before .before .before .before .if3 .left), ne-eqb _ _ (c .before .before .before .before .before .if2 .left), ne-eqb _ _ (c .before .before .before .before .before .before .if1 .left)))
-    (λ c. simp (eq-eqb _ _ (c .if8 .taken), ne-eqb _ _ (c .before .if7 .left), ne-eqb _ _ (c .before .before .if6 .left), ne-eqb _ _ (c .before .before .before .if5 .left), ne-eqb _ _ (c .before .before .before .before .if4 .left), ne-eqb _ _ (c .before .before .before .before .before .if3 .left), ne-eqb _ _ (c .before .before .before .before .before .before .if2 .left), ne-eqb _ _ (c .before .before .before .before .before .before .before .if1 .left)))
-    (λ c. simp (eq-eqb _ _ (c .if9 .taken), ne-eqb _ _ (c .before .if8 .left), ne-eqb _ _ (c .before .before .if7 .left), ne-eqb _ _ (c .before .before .before .if6 .left), ne-eqb _ _ (c .before .before .before .before .if5 .left), ne-eqb _ _ (c .before .before .before .before .before .if4 .left), ne-eqb _ _ (c .before .before .before .before .before .before .if3 .left), ne-eqb _ _ (c .before .before .before .before .before .before .before .if2 .left), ne-eqb _ _ (c .before .before .before .before .before .before .before .before .if1 .left)))
-    (λ c. simp (eq-eqb _ _ (c .if10 .taken), ne-eqb _ _ (c .before .if9 .left), ne-eqb _ _ (c .before .before .if8 .left), ne-eqb _ _ (c .before .before .before .if7 .left), ne-eqb _ _ (c .before .before .before .before .if6 .left), ne-eqb _ _ (c .before .before .before .before .before .if5 .left), ne-eqb _ _ (c .before .before .before .before .before .before .if4 .left), ne-eqb _ _ (c .before .before .before .before .before .before .before .if3 .left), ne-eqb _ _ (c .before .before .before .before .before .before .before .before .if2 .left), ne-eqb _ _ (c .before .before .before .before .before .before .before .before .before .if1 .left)))
-    (λ c. simp (eq-eqb _ _ (c .if11 .taken), ne-eqb _ _ (c .before .if10 .left), ne-eqb _ _ (c .before .before .if9 .left), ne-eqb _ _ (c .before .before .before .if8 .left), ne-eqb _ _ (c .before .before .before .before .if7 .left), ne-eqb _ _ (c .before .before .before .before .before .if6 .left), ne-eqb _ _ (c .before .before .before .before .before .before .if5 .left), ne-eqb _ _ (c .before .before .before .before .before .before .before .if4 .left), ne-eqb _ _ (c .before .before .before .before .before .before .before .before .if3 .left), ne-eqb _ _ (c .before .before .before .before .before .before .before .before .before .if2 .left), ne-eqb _ _ (c .before .before .before .before .before .before .before .before .before .before .if1 .left)))
-    (λ c. simp (ne-eqb _ _ (c .if11 .left), ne-eqb _ _ (c .before .if10 .left), ne-eqb _ _ (c .before .before .if9 .left), ne-eqb _ _ (c .before .before .before .if8 .left), ne-eqb _ _ (c .before .before .before .before .if7 .left), ne-eqb _ _ (c .before .before .before .before .before .if6 .left), ne-eqb _ _ (c .before .before .before .before .before .before .if5 .left), ne-eqb _ _ (c .before .before .before .before .before .before .before .if4 .left), ne-eqb _ _ (c .before .before .before .before .before .before .before .before .if3 .left), ne-eqb _ _ (c .before .before .before .before .before .before .before .before .before .if2 .left), ne-eqb _ _ (c .before .before .before .before .before .before .before .before .before .before .if1 .left))))
+    (λ c. simp (c .match .keys1))
+    (λ c. simp (c .match .keys2))
+    (λ c. simp (c .match .keys3))
+    (λ c. simp (c .match .keys4))
+    (λ c. simp (c .match .keys5))
+    (λ c. simp (c .match .keys6))
+    (λ c. simp (c .match .keys7))
+    (λ c. simp (c .match .keys8))
+    (λ c. simp (c .match .keys9))
+    (λ c. simp (c .match .keys10))
+    (λ c. simp (c .match .keys11))
+    (λ c.
+    let no = c .match .rest in
+    simp (ne-eqb _ 0 (no .0 .0 .0 .0 .0 .0 .0 .0 .0 .0 .1), ne-eqb _ 1 (no .0 .0 .0 .0 .0 .0 .0 .0 .0 .1), ne-eqb _ 2 (no .0 .0 .0 .0 .0 .0 .0 .0 .1), ne-eqb _ 3 (no .0 .0 .0 .0 .0 .0 .0 .1), ne-eqb _ 4 (no .0 .0 .0 .0 .0 .0 .1), ne-eqb _ 5 (no .0 .0 .0 .0 .0 .1), ne-eqb _ 6 (no .0 .0 .0 .0 .1), ne-eqb _ 7 (no .0 .0 .0 .1), ne-eqb _ 8 (no .0 .0 .1), ne-eqb _ 9 (no .0 .1), ne-eqb _ 10 (no .1))))
