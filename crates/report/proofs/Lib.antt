@@ -1,2 +1,3 @@
 pub mod ReportLaws
 pub mod TextLaws
+pub mod OneAnswer
