@@ -11,6 +11,7 @@ use Rattle.chip.specs.Run.{step, noteOf, ran, lines, notes}
 use Rattle.chip.specs.Stop.{rightly, arrayEffect, rightEffect, stopEffect, effectMoved, effectArray}
 use Rattle.chip.specs.Transfer.{slaveTaken, addressTaken, arrayData, registerData, byteBegun, byteEnded, fallIn}
 use Rattle.chip.specs.Wire.{edgeOf}
+use Rattle.recovery.specs.Pulses.{afterPulses}
 use Rattle.recovery.specs.Recovery.{pulse, pulsed, recovered, recoveryAnswer}
 use Rattle.gate.specs.Limit.{inRange, same, bits16, signed16}
 use Rattle.gate.specs.Label.{labelByte}
@@ -22,7 +23,7 @@ use Rattle.promises.specs.Cases.{holds, worked, errors}
 
 -- both lists, computed
 computed : T (holds worked) × T (holds errors)
-unfolding loaded storedTo firstLocked placeFits placePulls risen latchWritten lockWritten written chipFits pulls reacted reactedArray sampled sampledArray next nextArray refusal step noteOf ran lines notes rightly arrayEffect rightEffect stopEffect effectMoved effectArray slaveTaken addressTaken arrayData registerData byteBegun byteEnded fallIn edgeOf pulse pulsed recovered recoveryAnswer inRange same bits16 signed16 labelByte recordOf writeOf writtenOf isFree labelFits limitsFit heldOf readOf byteSent clocks bytesTaken byteTaken randomRead highs bitsIn byteOf
+unfolding loaded storedTo firstLocked placeFits placePulls risen latchWritten lockWritten written chipFits pulls reacted reactedArray sampled sampledArray next nextArray refusal step noteOf ran lines notes rightly arrayEffect rightEffect stopEffect effectMoved effectArray slaveTaken addressTaken arrayData registerData byteBegun byteEnded fallIn edgeOf afterPulses pulse pulsed recovered recoveryAnswer inRange same bits16 signed16 labelByte recordOf writeOf writtenOf isFree labelFits limitsFit heldOf readOf byteSent clocks bytesTaken byteTaken randomRead highs bitsIn byteOf
 computed = (tt, tt)
 
 -- "Worked on the bench": cases 1-12

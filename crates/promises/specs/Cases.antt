@@ -15,7 +15,7 @@
 -- | `changes` | the addresses at which two arrays differ |
 -- | `buffer`, `north`, `travelled` | a free record as a buffer; the label of case 4; the travel that a written record is read with |
 -- | `begins` | a lock begins at an address |
--- | `hung`, `pulsesOf`, `afterPulses` | a chip stopped in an acknowledge; the pulses that recovery reports; what n pulses leave |
+-- | `hung`, `pulsesOf` | a chip stopped in an acknowledge; the pulses that recovery reports |
 -- | `pinAtStop` | a write to the register with one pin level up to its STOP and another in it |
 -- | `case-1` to `case-12`, `worked` | the cases; the list of them |
 -- | `error-1` to `error-4`, `errors` | the errors; the list of them |
@@ -31,7 +31,8 @@ use Rattle.chip.specs.Run.{World, world, step, ran, lines, notes}
 use Rattle.chip.specs.Stop.{locked}
 use Rattle.chip.specs.declared.wire.Event.{Event}
 use Rattle.chip.specs.declared.wire.Event.the-variants.{ProgramDone, PowerUp}
-use Rattle.recovery.specs.Recovery.{sample, pulse, recoveryAnswer}
+use Rattle.recovery.specs.Pulses.{afterPulses}
+use Rattle.recovery.specs.Recovery.{sample, recoveryAnswer}
 use Rattle.gate.specs.Limit.{same}
 use Rattle.gate.specs.Reading.{readOf}
 use Rattle.gate.specs.Values.{givenOf}
@@ -230,16 +231,11 @@ worked =
     ∷ case 12 case-12
     ∷ []
 
--- one pulse after the other, whatever the line
-abbrev pub afterPulses : ℕ → World → World
-afterPulses zero w = w
-afterPulses (suc n) w = afterPulses n (pulse false w)
-
 -- Ten pulses taken for nine (case 11): after nine the line is low, after ten it is high
 abbrev pub error-1 : Bool
 error-1 =
     let stopped : World = hung (wiresOf 2 ∷ []) in
-    not (afterPulses 9 stopped .chip .line) && afterPulses 10 stopped .chip .line
+    not (afterPulses 9 false stopped .chip .line) && afterPulses 10 false stopped .chip .line
 
 -- A STOP taken as rightly placed only with no bit received, so no write ever ends: case 13, 78 events and note 3 at event 77
 abbrev pub error-2 : Bool
