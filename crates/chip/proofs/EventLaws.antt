@@ -12,7 +12,7 @@ use Rattle.chip.specs.Chip.{chipFits, pulls}
 use Rattle.chip.specs.Event.{next, nextArray, sampled, sampledArray, reacted, reactedArray, edgeIn, lineIn, withLevels, settled, refusal, answered, refused, eventAnswer, eventArray}
 use Rattle.chip.specs.Transfer.{quiet}
 use Rattle.chip.specs.Wire.{lineOf}
-use Rattle.chip.specs.declared.model.Chip.{Chip}
+use Rattle.chip.specs.declared.chip.Chip.{Chip}
 use Rattle.chip.specs.declared.wire.Event.{Event}
 use Rattle.chip.specs.declared.wire.Event.the-variants.{Sample, ProgramDone}
 use Rattle.chip.specs.declared.wire.Sample.{Sample as Levels}

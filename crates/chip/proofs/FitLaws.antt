@@ -5,26 +5,25 @@ use mathlib.Core.Path.{_≡_, refl}
 use native.Mathlib.Omega.{arith}
 use borrow.Author.Tests.{leb-true, le-leb}
 use lib.Dec.{leb}
-use Rattle.parts.specs.Place.{placeFits}
-use Rattle.parts.specs.declared.transfer.Place.{Place}
+use Rattle.parts.specs.Phase.{phaseFits}
+use Rattle.parts.specs.declared.phase.Phase.{Phase}
 use Rattle.parts.proofs.CondLaws.{cond-by, and-left, and-right}
-use Rattle.chip.specs.Chip.{chipFits, powerUp, newChip, standardChip, atPowerUp}
-use Rattle.chip.specs.Event.{made}
-use Rattle.chip.specs.declared.entry.Made.{Made}
-use Rattle.chip.specs.declared.model.Chip.{Chip}
+use Rattle.chip.specs.Chip.{chipFits, powerUp, newChip, standardChip, atPowerUp, made}
+use Rattle.chip.specs.declared.chip.Made.{Made}
+use Rattle.chip.specs.declared.chip.Chip.{Chip}
 
 -- the six ranges that refusal 2 looks at
-pub record Within (p s b k : ℕ) (at : Place) (n : ℕ) : Type 0 where
+pub record Within (p s b k : ℕ) (at : Phase) (n : ℕ) : Type 0 where
   pub part : p ≤ 1
   pub select : s ≤ 7
   pub bl : b ≤ 3
   pub counter : k ≤ 0x3fff
-  pub place : placeFits at ≡ true
+  pub phase : phaseFits at ≡ true
   pub count : n ≤ 33
 
 -- a chip in range
 abbrev pub Fits : Chip → Type 0
-Fits c = Within (c .part) (c .select) (c .register .bl) (c .counter) (c .place) (c .load .count)
+Fits c = Within (c .part) (c .select) (c .register .bl) (c .counter) (c .phase) (c .load .count)
 
 -- six tests that pass together pass each
 six : (a b c d e f : Bool) → (a && b && c && d && e && f) ≡ true → (a ≡ true) × (b ≡ true) × (c ≡ true) × (d ≡ true) × (e ≡ true) × (f ≡ true)
@@ -39,25 +38,25 @@ six a b c d e f h =
 pub fits-of : (c : Chip) → chipFits c ≡ true → Fits c
 unfolding chipFits
 fits-of c h =
-    let t = six (leb (c .part) 1) (leb (c .select) 7) (leb (c .register .bl) 3) (leb (c .counter) 0x3fff) (placeFits (c .place)) (leb (c .load .count) 33) h in
+    let t = six (leb (c .part) 1) (leb (c .select) 7) (leb (c .register .bl) 3) (leb (c .counter) 0x3fff) (phaseFits (c .phase)) (leb (c .load .count) 33) h in
     record {
       part = leb-true (c .part) 1 (t .0);
       select = leb-true (c .select) 7 (t .1);
       bl = leb-true (c .register .bl) 3 (t .2);
       counter = leb-true (c .counter) 0x3fff (t .3);
-      place = t .4;
+      phase = t .4;
       count = leb-true (c .load .count) 33 (t .5);
     }
 
 -- a chip in range passes it
 pub fits-so : (c : Chip) → Fits c → chipFits c ≡ true
 unfolding chipFits
-fits-so c f = rw (le-leb _ _ (f .part), le-leb _ _ (f .select), le-leb _ _ (f .bl), le-leb _ _ (f .counter), f .place, le-leb _ _ (f .count))
+fits-so c f = rw (le-leb _ _ (f .part), le-leb _ _ (f .select), le-leb _ _ (f .bl), le-leb _ _ (f .counter), f .phase, le-leb _ _ (f .count))
 
 -- a chip at power-up is in range if its part, select and BL are
 pub up-fits : (part select : ℕ) (ppen : Bool) (bl : ℕ) → part ≤ 1 → select ≤ 7 → bl ≤ 3 → Fits (atPowerUp part select ppen bl)
-unfolding placeFits
-up-fits part select ppen bl p s b = record { part = p; select = s; bl = b; counter = omega arith; place = refl; count = omega arith }
+unfolding phaseFits
+up-fits part select ppen bl p s b = record { part = p; select = s; bl = b; counter = omega arith; phase = refl; count = omega arith }
 
 -- a new chip is in range
 pub new-fits : (part select : ℕ) → part ≤ 1 → select ≤ 7 → chipFits (newChip part select) ≡ true

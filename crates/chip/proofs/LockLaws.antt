@@ -5,7 +5,7 @@ use mathlib.Core.Path.{_≡_, refl, sym, ap, _∙_}
 use mathlib.Core.List.{List}
 use lib.ListN.{getD}
 use Rattle.parts.specs.Sector.{sectorStart}
-use Rattle.parts.specs.declared.bits.Register.{Register}
+use Rattle.parts.specs.declared.register.Register.{Register}
 use Rattle.parts.proofs.LoadLaws.{stored-outside, stored-changed}
 use Rattle.parts.proofs.LockLaws.{locked-whole, locked-from-start}
 use Rattle.parts.proofs.RegisterLaws.{written-kept}
@@ -13,7 +13,7 @@ use Rattle.chip.specs.Event.{next, nextArray}
 use Rattle.chip.specs.Stop.{locked}
 use Rattle.chip.specs.View.{pinHigh, Did, Touched}
 use Rattle.chip.specs.View.Did.{nothing, clear, change, store}
-use Rattle.chip.specs.declared.model.Chip.{Chip}
+use Rattle.chip.specs.declared.chip.Chip.{Chip}
 use Rattle.chip.specs.declared.wire.Event.{Event}
 use Rattle.chip.proofs.ViewLaws.{view}
 

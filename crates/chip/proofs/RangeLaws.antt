@@ -5,22 +5,22 @@ use mathlib.Core.Path.{_≡_, refl}
 use mathlib.Core.List.{List}
 use native.Mathlib.Omega.{arith}
 use lib.ListN.{getD}
-use Rattle.parts.specs.Place.{placeFits}
-use Rattle.parts.specs.declared.transfer.Place.the-variants.{Standby}
+use Rattle.parts.specs.Phase.{phaseFits}
+use Rattle.parts.specs.declared.phase.Phase.the-variants.{Standby}
 use Rattle.parts.proofs.RegisterLaws.{written-bl}
 use Rattle.chip.specs.Chip.{chipFits}
 use Rattle.chip.specs.Event.{next}
 use Rattle.chip.specs.Stop.{effectMoved}
 use Rattle.chip.specs.View.{pinHigh}
-use Rattle.chip.specs.declared.model.Chip.{Chip}
+use Rattle.chip.specs.declared.chip.Chip.{Chip}
 use Rattle.chip.specs.declared.wire.Event.{Event}
 use Rattle.chip.proofs.FitLaws.{Within, Fits, fits-of, fits-so, power-fits}
 use Rattle.chip.proofs.StepLaws.{next-by}
 
 -- a chip at rest is in range if its BL and its counter are
 rested-within : (c : Chip) (bl counter : ℕ) → bl ≤ 3 → counter ≤ 0x3fff → Fits c → Within (c .part) (c .select) bl counter Standby 0
-unfolding placeFits
-rested-within c bl counter b k f = record { part = f .part; select = f .select; bl = b; counter = k; place = refl; count = omega arith }
+unfolding phaseFits
+rested-within c bl counter b k f = record { part = f .part; select = f .select; bl = b; counter = k; phase = refl; count = omega arith }
 
 -- an event leads from a chip in range to one in range
 pub next-within : (e : Event) (c : Chip) (xs : List ℕ) → Fits c → Fits (next e c xs .chip)
@@ -28,7 +28,7 @@ unfolding effectMoved
 next-within e c xs f =
     next-by (λ m ys. Fits (m .chip)) e c xs
     (λ m ys s g. g)
-    (λ place counter mark load note fits. fits f)
+    (λ phase counter mark load note fits. fits f)
     (λ idle taken marked. rested-within c _ 0x0000 (written-bl (c .register) (getD (c .load .bytes) 0 0) (pinHigh e) (f .bl)) (omega arith) f)
     (λ idle taken storable. rested-within c (c .register .bl) (c .counter) (f .bl) (f .counter) f)
     f
@@ -44,7 +44,7 @@ unfolding effectMoved
 next-same e c xs =
     next-by (λ m ys. (m .chip .part ≡ c .part) × (m .chip .select ≡ c .select)) e c xs
     (λ m ys s same. same)
-    (λ place counter mark load note fits. (refl, refl))
+    (λ phase counter mark load note fits. (refl, refl))
     (λ idle taken marked. (refl, refl))
     (λ idle taken storable. (refl, refl))
     (refl, refl)

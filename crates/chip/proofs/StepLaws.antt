@@ -9,24 +9,24 @@ use borrow.Author.Tests.{leb-true, le-leb}
 use lib.Dec.{eqb}
 use lib.ListN.{getD}
 use Rattle.parts.specs.Load.{noLoad, loaded, stored}
-use Rattle.parts.specs.Place.{placeFits, risen}
+use Rattle.parts.specs.Phase.{phaseFits, risen}
 use Rattle.parts.specs.Register.{written}
 use Rattle.parts.specs.Sector.{sectorStart, nextPlace, nextAddress}
-use Rattle.parts.specs.declared.sector.Load.{Load}
-use Rattle.parts.specs.declared.transfer.Place.{Place}
-use Rattle.parts.specs.declared.transfer.Place.the-variants.{Standby, Slave, First, Second, Data, AckWrite, AckRead, AckFirst, AckByte, Sending, Waiting, Next}
+use Rattle.parts.specs.declared.load.Load.{Load}
+use Rattle.parts.specs.declared.phase.Phase.{Phase}
+use Rattle.parts.specs.declared.phase.Phase.the-variants.{Standby, Slave, First, Second, Data, AckWrite, AckRead, AckFirst, AckByte, Sending, Waiting, Next}
 use Rattle.parts.proofs.CondLaws.{cond-by}
 use Rattle.parts.proofs.LoadLaws.{loaded-most}
-use Rattle.parts.proofs.PlaceLaws.{risen-fits}
+use Rattle.parts.proofs.PhaseLaws.{risen-fits}
 use Rattle.parts.proofs.SectorLaws.{next-place-fits, next-address-fits}
 use Rattle.chip.specs.Chip.{powerUp}
 use Rattle.chip.specs.Event.{next, nextArray, sampled, sampledArray, reacted, reactedArray, edgeIn, lineIn, programDone, settled}
 use Rattle.chip.specs.Stop.{effectMoved, effectArray}
-use Rattle.chip.specs.Transfer.{moved, quiet, placedAt, atPlace, emptyAt, fallIn, slaveTaken, addressed, addressTaken, arrayData, registerData, byteBegun, nextByte, byteEnded, dropNote}
+use Rattle.chip.specs.Transfer.{moved, quiet, withTransfer, atPhase, emptyAt, fallIn, slaveTaken, addressed, addressTaken, arrayData, registerData, byteBegun, nextByte, byteEnded, dropNote}
 use Rattle.chip.specs.View.{pinHigh}
-use Rattle.chip.specs.declared.model.Chip.{Chip}
-use Rattle.chip.specs.declared.model.Effect.the-variants.{Change, Store}
-use Rattle.chip.specs.declared.model.Moved.{Moved}
+use Rattle.chip.specs.declared.chip.Chip.{Chip}
+use Rattle.chip.specs.declared.chip.Effect.the-variants.{Change, Store}
+use Rattle.chip.specs.declared.chip.Moved.{Moved}
 use Rattle.chip.specs.declared.wire.Edge.{Edge}
 use Rattle.chip.specs.declared.wire.Edge.the-variants.{Quiet, Start, Stop, Rise, Fall}
 use Rattle.chip.specs.declared.wire.Event.{Event}
@@ -35,44 +35,44 @@ use Rattle.chip.specs.declared.wire.Sample.{Sample as Levels}
 use Rattle.chip.proofs.FitLaws.{Fits}
 use Rattle.chip.proofs.StopLaws.{Taken, Storable, stop-by}
 
--- `P` holds of every move: another place, counter, mark and load, in range if the chip was, with any note
+-- `P` holds of every move: another phase, counter, mark and load, in range if the chip was, with any note
 abbrev pub Moves : (Moved → Type 0) → Chip → Type 0
 Moves P c =
-    (place : Place) (counter : ℕ) (mark : Bool) (load : Load) (note : ℕ) → (Fits c → Fits (placedAt c place counter mark load))
-    → P (moved (placedAt c place counter mark load) note)
+    (phase : Phase) (counter : ℕ) (mark : Bool) (load : Load) (note : ℕ) → (Fits c → Fits (withTransfer c phase counter mark load))
+    → P (moved (withTransfer c phase counter mark load) note)
 
 module _ (P : Moved → Type 0) (c : Chip) (move : Moves P c) where
   -- a move to what is in range if the chip is
-  put : (place : Place) (counter : ℕ) (mark : Bool) (load : Load) (note : ℕ) → (Fits c → placeFits place ≡ true) → (Fits c → counter ≤ 0x3fff) → (Fits c → load .count ≤ 33)
-      → P (moved (placedAt c place counter mark load) note)
-  put place counter mark load note p k n =
-      move place counter mark load note
-      (λ f. record { part = f .part; select = f .select; bl = f .bl; counter = k f; place = p f; count = n f })
+  put : (phase : Phase) (counter : ℕ) (mark : Bool) (load : Load) (note : ℕ) → (Fits c → phaseFits phase ≡ true) → (Fits c → counter ≤ 0x3fff) → (Fits c → load .count ≤ 33)
+      → P (moved (withTransfer c phase counter mark load) note)
+  put phase counter mark load note p k n =
+      move phase counter mark load note
+      (λ f. record { part = f .part; select = f .select; bl = f .bl; counter = k f; phase = p f; count = n f })
 
-  -- a move to another place alone
-  go-to : (place : Place) → (Fits c → placeFits place ≡ true) → P (quiet (atPlace c place))
-  go-to place p = put place (c .counter) (c .mark) (c .load) 0 p (λ f. f .counter) (λ f. f .count)
+  -- a move to another phase alone
+  go-to : (phase : Phase) → (Fits c → phaseFits phase ≡ true) → P (quiet (atPhase c phase))
+  go-to phase p = put phase (c .counter) (c .mark) (c .load) 0 p (λ f. f .counter) (λ f. f .count)
 
   -- a move that drops the load
-  drop-at : (place : Place) (note : ℕ) → placeFits place ≡ true → P (moved (emptyAt c place) note)
-  drop-at place note p = put place (c .counter) (c .mark) noLoad note (λ f. p) (λ f. f .counter) (λ f. omega arith)
+  drop-at : (phase : Phase) (note : ℕ) → phaseFits phase ≡ true → P (moved (emptyAt c phase) note)
+  drop-at phase note p = put phase (c .counter) (c .mark) noLoad note (λ f. p) (λ f. f .counter) (λ f. omega arith)
 
   -- the move that changes nothing
   stay : P (quiet c)
-  stay = go-to (c .place) (λ f. f .place)
+  stay = go-to (c .phase) (λ f. f .phase)
 
   -- a slave byte is taken by a move
   slave-by : (byte : ℕ) → P (quiet (slaveTaken c byte))
-  unfolding slaveTaken placeFits
+  unfolding slaveTaken phaseFits
   slave-by byte =
       go-to _
-      (λ f. cond-by (λ p. placeFits p ≡ true) (addressed (c .select) byte) _ Standby
-      (λ e. cond-by (λ p. placeFits p ≡ true) (eqb (byte % 2) 0) AckWrite AckRead (λ w. refl) (λ r. refl))
+      (λ f. cond-by (λ p. phaseFits p ≡ true) (addressed (c .select) byte) _ Standby
+      (λ e. cond-by (λ p. phaseFits p ≡ true) (eqb (byte % 2) 0) AckWrite AckRead (λ w. refl) (λ r. refl))
       (λ e. refl))
 
   -- an address is taken by a move
   address-by : (address : ℕ) → P (quiet (addressTaken c address))
-  unfolding addressTaken placeFits
+  unfolding addressTaken phaseFits
   address-by address =
       cond-by (λ d. P (quiet d)) (eqb address 0xffff) _ _
       (λ e. put AckByte (c .counter) true (c .load) 0 (λ f. refl) (λ f. f .counter) (λ f. f .count))
@@ -80,7 +80,7 @@ module _ (P : Moved → Type 0) (c : Chip) (move : Moves P c) where
 
   -- a data byte to the array is taken by a move
   array-by : (byte : ℕ) → P (arrayData c byte)
-  unfolding arrayData placeFits
+  unfolding arrayData phaseFits
   array-by byte =
       cond-by (λ d. P (quiet d)) (c .register .pel) _ _
       (λ e. put AckByte (nextPlace (c .counter)) (c .mark) (loaded (c .load) (c .counter) byte) 0
@@ -89,7 +89,7 @@ module _ (P : Moved → Type 0) (c : Chip) (move : Moves P c) where
 
   -- a data byte with the mark is taken by a move
   register-by : (byte : ℕ) → P (registerData c byte)
-  unfolding registerData placeFits
+  unfolding registerData phaseFits
   register-by byte =
       cond-by P (eqb (c .load .count) 0) _ _
       (λ e. put AckByte (c .counter) (c .mark) (loaded (c .load) 0 byte) 0 (λ f. refl) (λ f. f .counter) (λ f. loaded-most (c .load) 0 byte))
@@ -97,18 +97,18 @@ module _ (P : Moved → Type 0) (c : Chip) (move : Moves P c) where
 
   -- a byte that is sent ends with a move
   ended-by : P (quiet (byteEnded c))
-  unfolding byteEnded placeFits
+  unfolding byteEnded phaseFits
   ended-by =
       cond-by (λ d. P (quiet d)) (c .mark) _ _
       (λ e. put Standby 0x0000 false (c .load) 0 (λ f. refl) (λ f. omega arith) (λ f. f .count))
       (λ e. put Waiting (nextAddress (c .counter)) (c .mark) (c .load) 0 (λ f. refl) (λ f. next-address-fits (c .counter)) (λ f. f .count))
 
   -- a clock fall is a move
-  pub fall-by : (p : Place) (xs : List ℕ) → c .place ≡ p → P (fallIn p c xs)
-  unfolding fallIn byteBegun placeFits
+  pub fall-by : (p : Phase) (xs : List ℕ) → c .phase ≡ p → P (fallIn p c xs)
+  unfolding fallIn byteBegun phaseFits
   fall-by Standby xs at = stay
   fall-by (Slave bits got) xs at = cond-by (λ d. P (quiet d)) (eqb bits 8) (slaveTaken c got) c (λ e. slave-by got) (λ e. stay)
-  fall-by (First bits got) xs at = cond-by (λ d. P (quiet d)) (eqb bits 8) (atPlace c (AckFirst got)) c (λ e. go-to (AckFirst got) (λ f. refl)) (λ e. stay)
+  fall-by (First bits got) xs at = cond-by (λ d. P (quiet d)) (eqb bits 8) (atPhase c (AckFirst got)) c (λ e. go-to (AckFirst got) (λ f. refl)) (λ e. stay)
   fall-by (Second high bits got) xs at =
       cond-by (λ d. P (quiet d)) (eqb bits 8) (addressTaken c (high * 256 + got)) c (λ e. address-by (high * 256 + got)) (λ e. stay)
   fall-by (Data bits got) xs at =
@@ -120,7 +120,7 @@ module _ (P : Moved → Type 0) (c : Chip) (move : Moves P c) where
   fall-by (AckFirst high) xs at = go-to (Second high 0 0) (λ f. refl)
   fall-by AckByte xs at = go-to (Data 0 0) (λ f. refl)
   fall-by (Sending zero byte) xs at = ended-by
-  fall-by (Sending (suc bit) byte) xs at = go-to (Sending bit byte) (λ f. le-leb bit 7 (omega (arith, leb-true (suc bit) 7 (rw at at (f .place)))))
+  fall-by (Sending (suc bit) byte) xs at = go-to (Sending bit byte) (λ f. le-leb bit 7 (omega (arith, leb-true (suc bit) 7 (rw at at (f .phase)))))
   fall-by Waiting xs at = stay
   fall-by Next xs at = go-to (Sending 7 (nextByte c xs)) (λ f. refl)
 
@@ -138,7 +138,7 @@ Stores P c xs pin = Taken c → Storable c pin → P (effectMoved (Store 1) c) (
 pub react-by : (P : Moved → List ℕ → Type 0) (edge : Edge) (c : Chip) (line pin : Bool) (xs : List ℕ)
     → Moves (λ m. P m xs) c → Changes P c xs pin → Stores P c xs pin
     → P (reacted edge c line pin xs) (reactedArray edge c pin xs)
-unfolding reacted reactedArray effectArray placeFits
+unfolding reacted reactedArray effectArray phaseFits
 react-by P Quiet c line pin xs move change store = stay (λ m. P m xs) c move
 react-by P Start c line pin xs move change store = drop-at (λ m. P m xs) c move (Slave 0 0) (dropNote c) refl
 react-by P Stop c line pin xs move change store =
@@ -146,8 +146,8 @@ react-by P Stop c line pin xs move change store =
     (λ note. unfold effectMoved in drop-at (λ m. P m xs) c move Standby note refl)
     change store
 react-by P Rise c line pin xs move change store =
-    go-to (λ m. P m xs) c move (risen (c .place) line) (λ f. risen-fits (c .place) line (f .place))
-react-by P Fall c line pin xs move change store = fall-by (λ m. P m xs) c move (c .place) xs refl
+    go-to (λ m. P m xs) c move (risen (c .phase) line) (λ f. risen-fits (c .phase) line (f .phase))
+react-by P Fall c line pin xs move change store = fall-by (λ m. P m xs) c move (c .phase) xs refl
 
 -- every sample sets the levels; on a busy chip it does no more, on an idle one its edge acts
 pub sample-by : (P : Moved → List ℕ → Type 0) (s : Levels) (c : Chip) (xs : List ℕ)

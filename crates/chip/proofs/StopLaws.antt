@@ -11,13 +11,13 @@ use Rattle.parts.proofs.CondLaws.{cond-by}
 use Rattle.chip.specs.Chip.{pulls}
 use Rattle.chip.specs.Stop.{stopEffect, rightEffect, arrayEffect, rightly, locked}
 use Rattle.chip.specs.Transfer.{dropNote}
-use Rattle.chip.specs.declared.model.Chip.{Chip}
-use Rattle.chip.specs.declared.model.Effect.{Effect}
-use Rattle.chip.specs.declared.model.Effect.the-variants.{Nothing, Change, Store}
+use Rattle.chip.specs.declared.chip.Chip.{Chip}
+use Rattle.chip.specs.declared.chip.Effect.{Effect}
+use Rattle.chip.specs.declared.chip.Effect.the-variants.{Nothing, Change, Store}
 
 -- a load that a stop may take: rightly placed, and of one byte or more
 pub record Taken (c : Chip) : Type 0 where
-  pub right : rightly (c .place) ≡ true
+  pub right : rightly (c .phase) ≡ true
   pub some : c .load .count ≡ 0 → ⊥
 
 -- a load that a stop may store: no mark, the whole sector on an X24F128, no lock
@@ -43,7 +43,7 @@ pub stop-by : (P : Effect → Type 0) (c : Chip) (pin : Bool) → ((note : ℕ) 
 unfolding stopEffect rightEffect arrayEffect
 stop-by P c pin nothing change store =
     cond-by P (pulls c) (Nothing (dropNote c)) _ (λ pulling. nothing (dropNote c))
-    (λ free. cond-by P (rightly (c .place)) (rightEffect c pin) (Nothing (dropNote c))
+    (λ free. cond-by P (rightly (c .phase)) (rightEffect c pin) (Nothing (dropNote c))
     (λ right. cond-by P (eqb (c .load .count) 0) (Nothing 0) _ (λ none. nothing 0)
     (λ some. cond-by P (c .mark) (Change (written (c .register) (getD (c .load .bytes) 0 0) pin)) (arrayEffect c pin)
     (change (taken right some))
@@ -52,5 +52,5 @@ stop-by P c pin nothing change store =
     (λ unlocked. store (taken right some) (record { unmarked = unmarked; whole = whole-load (c .part) (c .load .count) whole; unlocked = unlocked }))))))
     (λ wrong. nothing (dropNote c)))
   where
-    taken : rightly (c .place) ≡ true → eqb (c .load .count) 0 ≡ false → Taken c
+    taken : rightly (c .phase) ≡ true → eqb (c .load .count) 0 ≡ false → Taken c
     taken right some = record { right = right; some = eqb-false (c .load .count) 0 some }

@@ -5,7 +5,7 @@ use mathlib.Core.Bool.{Bool, true, false, cond}
 use mathlib.Core.Path.{_≡_, refl, ap, _∙_}
 use mathlib.Core.List.{List}
 use lib.ListN.{length}
-use Rattle.parts.specs.declared.bits.Register.{Register}
+use Rattle.parts.specs.declared.register.Register.{Register}
 use Rattle.parts.proofs.CondLaws.{cond-by}
 use Rattle.parts.proofs.LoadLaws.{length-stored}
 use Rattle.chip.specs.Event.{next, nextArray, sampled, sampledArray, reacted, reactedArray, edgeIn, lineIn}
@@ -13,10 +13,10 @@ use Rattle.chip.specs.Stop.{stopEffect, effectMoved, effectArray}
 use Rattle.chip.specs.Transfer.{quiet, dropNote}
 use Rattle.chip.specs.View.{pinHigh, edgeEffect, effectOf, effectNote, effectRegister, Kept, Did, DidBy}
 use Rattle.chip.specs.View.Did.{nothing, clear, change, store}
-use Rattle.chip.specs.declared.model.Chip.{Chip}
-use Rattle.chip.specs.declared.model.Effect.{Effect}
-use Rattle.chip.specs.declared.model.Effect.the-variants.{Nothing, Change, Store}
-use Rattle.chip.specs.declared.model.Moved.{Moved}
+use Rattle.chip.specs.declared.chip.Chip.{Chip}
+use Rattle.chip.specs.declared.chip.Effect.{Effect}
+use Rattle.chip.specs.declared.chip.Effect.the-variants.{Nothing, Change, Store}
+use Rattle.chip.specs.declared.chip.Moved.{Moved}
 use Rattle.chip.specs.declared.wire.Edge.{Edge}
 use Rattle.chip.specs.declared.wire.Edge.the-variants.{Quiet, Start, Stop, Rise, Fall}
 use Rattle.chip.specs.declared.wire.Event.{Event}
@@ -30,7 +30,7 @@ unfolding effectMoved
 view e c xs =
     next-by (λ m ys. Did (pinHigh e) c xs (m .chip .register) (m .chip .busy) (m .note) ys) e c xs
     (λ m ys s did. did)
-    (λ place counter mark load note fits. nothing (record { array = refl; register = refl }))
+    (λ phase counter mark load note fits. nothing (record { array = refl; register = refl }))
     (λ idle taken marked. change (record { idle = idle; right = taken .right; some = taken .some; marked = marked; array = refl; wrote = refl }))
     (λ idle taken storable.
     store
@@ -83,7 +83,7 @@ edge-acts Stop c line pin xs = effect-acts (stopEffect c pin) c xs
 edge-acts Rise c line pin xs = effect-acts (Nothing 0) c xs
 edge-acts Fall c line pin xs =
     fall-by (λ m. Acted c xs (Nothing (m .note)) (m .chip .register) (m .note) xs) c
-    (λ place counter mark load note fits. effect-acts (Nothing note) c xs) (c .place) xs refl
+    (λ phase counter mark load note fits. effect-acts (Nothing note) c xs) (c .phase) xs refl
 
 -- a sample leaves what its effect says
 sample-acts : (s : Levels) (c : Chip) (xs : List ℕ)

@@ -6,27 +6,29 @@
 -- | `pulls` | the chip pulls the line |
 -- | `atPowerUp` | a chip as power-up leaves it |
 -- | `powerUp`, `newChip`, `standardChip` | after a power-up; new of a part and a select; the standard one |
+-- | `made` | what a new chip answers |
 use Prim.Native.Nat.{ℕ}
-use mathlib.Core.Bool.{Bool, true, false, not, _&&_}
+use mathlib.Core.Bool.{Bool, true, false, not, cond, _&&_}
 use lib.Dec.{leb}
 use Rattle.parts.specs.Load.{noLoad}
-use Rattle.parts.specs.Place.{placeFits, placePulls}
-use Rattle.parts.specs.declared.transfer.Place.the-variants.{Standby}
-use Rattle.chip.specs.declared.model.Chip.{Chip}
+use Rattle.parts.specs.Phase.{phaseFits, phasePulls}
+use Rattle.parts.specs.declared.phase.Phase.the-variants.{Standby}
+use Rattle.chip.specs.declared.chip.Chip.{Chip}
+use Rattle.chip.specs.declared.chip.Made.{Made}
 
--- part 0-1, select 0-7, BL 0-3, counter 0-3FFFh, the place's own, count 0-33
+-- part 0-1, select 0-7, BL 0-3, counter 0-3FFFh, the phase's own, count 0-33
 unfoldable pub chipFits : Chip → Bool
 chipFits c =
     leb (c .part) 1
     && leb (c .select) 7
     && leb (c .register .bl) 3
     && leb (c .counter) 0x3fff
-    && placeFits (c .place)
+    && phaseFits (c .phase)
     && leb (c .load .count) 33
 
 -- a busy chip pulls nowhere
 unfoldable pub pulls : Chip → Bool
-pulls c = not (c .busy) && placePulls (c .place)
+pulls c = not (c .busy) && phasePulls (c .phase)
 
 -- PPEN and BL outlive the supply; all else is cleared, with SCL low and the line high as the last levels
 abbrev pub atPowerUp : ℕ → ℕ → Bool → ℕ → Chip
@@ -40,7 +42,7 @@ atPowerUp part select ppen bl =
       busy = false;
       scl = false;
       line = true;
-      place = Standby;
+      phase = Standby;
       load = noLoad;
     }
 
@@ -55,3 +57,9 @@ newChip part select = atPowerUp part select false 0
 -- an X24128, select 0
 abbrev pub standardChip : Chip
 standardChip = newChip 0 0
+
+-- refusal 3, with the standard chip, for a part above 1 or a select above 7
+unfoldable pub made : ℕ → ℕ → Made
+made part select =
+    cond (leb part 1) (cond (leb select 7) (record { refusal = 0; chip = newChip part select }) (record { refusal = 3; chip = standardChip }))
+    (record { refusal = 3; chip = standardChip })

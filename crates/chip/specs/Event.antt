@@ -12,21 +12,19 @@
 -- | `refusal` | 1, 2 or none |
 -- | `answered`, `refused` | an answer, and one that refuses |
 -- | `eventAnswer`, `eventArray` | what one event answers, and the array at its exit |
--- | `made` | what a new chip answers |
 use Prim.Native.Nat.{ℕ}
 use mathlib.Core.Bool.{Bool, true, false, cond}
 use mathlib.Core.List.{List}
-use lib.Dec.{eqb, leb}
+use lib.Dec.{eqb}
 use lib.ListN.{length}
-use Rattle.parts.specs.declared.transfer.Place.{Place}
-use Rattle.chip.specs.Chip.{chipFits, pulls, powerUp, newChip, standardChip}
+use Rattle.parts.specs.declared.phase.Phase.{Phase}
+use Rattle.chip.specs.Chip.{chipFits, pulls, powerUp}
 use Rattle.chip.specs.Stop.{stopEffect, effectMoved, effectArray}
 use Rattle.chip.specs.Transfer.{moved, quiet, started, rose, fell}
 use Rattle.chip.specs.Wire.{lineOf, edgeOf}
-use Rattle.chip.specs.declared.entry.Answer.{Answer}
-use Rattle.chip.specs.declared.entry.Made.{Made}
-use Rattle.chip.specs.declared.model.Chip.{Chip}
-use Rattle.chip.specs.declared.model.Moved.{Moved}
+use Rattle.chip.specs.declared.event.Answer.{Answer}
+use Rattle.chip.specs.declared.chip.Chip.{Chip}
+use Rattle.chip.specs.declared.chip.Moved.{Moved}
 use Rattle.chip.specs.declared.wire.Edge.{Edge}
 use Rattle.chip.specs.declared.wire.Edge.the-variants.{Quiet, Start, Stop, Rise, Fall}
 use Rattle.chip.specs.declared.wire.Event.{Event}
@@ -69,7 +67,7 @@ withLevels c scl line =
       busy = c .busy;
       scl = scl;
       line = line;
-      place = c .place;
+      phase = c .phase;
       load = c .load;
     }
 
@@ -97,7 +95,7 @@ programDone c =
       busy = false;
       scl = c .scl;
       line = c .line;
-      place = c .place;
+      phase = c .phase;
       load = c .load;
     }
 
@@ -132,9 +130,3 @@ eventAnswer e c xs = cond (eqb (refusal c xs) 0) (answered 0 (next e c xs)) (ref
 -- a refusal writes nothing
 unfoldable pub eventArray : Event → Chip → List ℕ → List ℕ
 eventArray e c xs = cond (eqb (refusal c xs) 0) (nextArray e c xs) xs
-
--- refusal 3, with the standard chip, for a part above 1 or a select above 7
-unfoldable pub made : ℕ → ℕ → Made
-made part select =
-    cond (leb part 1) (cond (leb select 7) (record { refusal = 0; chip = newChip part select }) (record { refusal = 3; chip = standardChip }))
-    (record { refusal = 3; chip = standardChip })

@@ -2,7 +2,7 @@
 --
 -- | Name | Meaning |
 -- |---|---|
--- | `rightly` | a stop in this place is rightly placed |
+-- | `rightly` | a stop in this phase is rightly placed |
 -- | `locked c pin a` | the address is locked |
 -- | `arrayEffect` | the ordered rules for an array load |
 -- | `rightEffect` | what a rightly placed stop does |
@@ -18,18 +18,18 @@ use Rattle.parts.specs.Load.{noLoad, stored}
 use Rattle.parts.specs.Locks.{firstLocked}
 use Rattle.parts.specs.Register.{written, withRpel}
 use Rattle.parts.specs.Sector.{sectorStart}
-use Rattle.parts.specs.declared.bits.Register.{Register}
-use Rattle.parts.specs.declared.transfer.Place.{Place}
-use Rattle.parts.specs.declared.transfer.Place.the-variants.{Standby, Slave, First, Second, Data, AckWrite, AckRead, AckFirst, AckByte, Sending, Waiting, Next}
+use Rattle.parts.specs.declared.register.Register.{Register}
+use Rattle.parts.specs.declared.phase.Phase.{Phase}
+use Rattle.parts.specs.declared.phase.Phase.the-variants.{Standby, Slave, First, Second, Data, AckWrite, AckRead, AckFirst, AckByte, Sending, Waiting, Next}
 use Rattle.chip.specs.Chip.{pulls}
 use Rattle.chip.specs.Transfer.{moved, emptyAt, dropNote}
-use Rattle.chip.specs.declared.model.Chip.{Chip}
-use Rattle.chip.specs.declared.model.Effect.{Effect}
-use Rattle.chip.specs.declared.model.Effect.the-variants.{Nothing, Change, Store}
-use Rattle.chip.specs.declared.model.Moved.{Moved}
+use Rattle.chip.specs.declared.chip.Chip.{Chip}
+use Rattle.chip.specs.declared.chip.Effect.{Effect}
+use Rattle.chip.specs.declared.chip.Effect.the-variants.{Nothing, Change, Store}
+use Rattle.chip.specs.declared.chip.Moved.{Moved}
 
 -- the clock rose once after the last acknowledge: one bit of a data byte has come
-unfoldable pub rightly : Place → Bool
+unfoldable pub rightly : Phase → Bool
 rightly Standby = false
 rightly (Slave bits got) = false
 rightly (First bits got) = false
@@ -65,7 +65,7 @@ rightEffect c pin =
 unfoldable pub stopEffect : Chip → Bool → Effect
 stopEffect c pin =
     cond (pulls c) (Nothing (dropNote c))
-    (cond (rightly (c .place)) (rightEffect c pin) (Nothing (dropNote c)))
+    (cond (rightly (c .phase)) (rightEffect c pin) (Nothing (dropNote c)))
 
 -- a stop always leads here
 abbrev pub rested : Chip → Register → ℕ → Bool → Bool → Chip
@@ -79,7 +79,7 @@ rested c register counter mark busy =
       busy = busy;
       scl = c .scl;
       line = c .line;
-      place = Standby;
+      phase = Standby;
       load = noLoad;
     }
 

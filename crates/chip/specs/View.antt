@@ -12,15 +12,15 @@ use mathlib.Core.Path.{_≡_}
 use mathlib.Core.List.{List, [], _∷_}
 use lib.ListN.{getD}
 use Rattle.parts.specs.Load.{stored}
-use Rattle.parts.specs.Register.{written, latched, withPel, withRpel}
+use Rattle.parts.specs.Register.{written, outcome, withPel, withRpel}
 use Rattle.parts.specs.Sector.{sectorStart}
-use Rattle.parts.specs.declared.bits.Register.{Register}
+use Rattle.parts.specs.declared.register.Register.{Register}
 use Rattle.chip.specs.Event.{next, nextArray, edgeIn}
 use Rattle.chip.specs.Run.{World}
 use Rattle.chip.specs.Stop.{stopEffect, rightly, locked}
-use Rattle.chip.specs.declared.model.Chip.{Chip}
-use Rattle.chip.specs.declared.model.Effect.{Effect}
-use Rattle.chip.specs.declared.model.Effect.the-variants.{Nothing, Change, Store}
+use Rattle.chip.specs.declared.chip.Chip.{Chip}
+use Rattle.chip.specs.declared.chip.Effect.{Effect}
+use Rattle.chip.specs.declared.chip.Effect.the-variants.{Nothing, Change, Store}
 use Rattle.chip.specs.declared.wire.Edge.{Edge}
 use Rattle.chip.specs.declared.wire.Edge.the-variants.{Quiet, Start, Stop, Rise, Fall}
 use Rattle.chip.specs.declared.wire.Event.{Event}
@@ -81,16 +81,16 @@ pub record Cleared (c : Chip) (xs : List ℕ) (after : Register) (note : ℕ) (y
 -- a register byte: the load's place 0 is written to the register with the pin of this sample, and no byte of the array is
 pub record Changed (pin : Bool) (c : Chip) (xs : List ℕ) (after : Register) (busy : Bool) (note : ℕ) (ys : List ℕ) : Type 0 where
   pub idle : c .busy ≡ false
-  pub right : rightly (c .place) ≡ true
+  pub right : rightly (c .phase) ≡ true
   pub some : c .load .count ≡ 0 → ⊥
   pub marked : c .mark ≡ true
   pub array : ys ≡ xs
-  pub wrote : latched after busy note ≡ written (c .register) (getD (c .load .bytes) 0 0) pin
+  pub wrote : outcome after busy note ≡ written (c .register) (getD (c .load .bytes) 0 0) pin
 
 -- a store: the loaded places of the counter's sector take their bytes, which no lock forbids, and a cycle begins with note 1
 pub record Stored (pin : Bool) (c : Chip) (xs : List ℕ) (after : Register) (busy : Bool) (note : ℕ) (ys : List ℕ) : Type 0 where
   pub idle : c .busy ≡ false
-  pub right : rightly (c .place) ≡ true
+  pub right : rightly (c .phase) ≡ true
   pub some : c .load .count ≡ 0 → ⊥
   pub unmarked : c .mark ≡ false
   pub whole : c .part ≡ 1 → c .load .count ≡ 32

@@ -1,4 +1,4 @@
--- Bytes that fit, unpacked and packed again, are the same bytes with what their place does not carry cleared; a packed chip has
+-- Bytes that fit, unpacked and packed again, are the same bytes with what their phase does not carry cleared; a packed chip has
 -- nothing to clear. Assumes nothing.
 use Prim.Native.Nat.{ℕ, zero, suc, _+_, _*_, _/_, _%_, _<_, _≤_}
 use mathlib.Core.Bool.{true, cond, _&&_}
@@ -10,31 +10,31 @@ use lib.Dec.{leb}
 use lib.ListN.{length, getD, take, drop, length-drop, take-append-drop}
 use lib.Seq.{drop-cons, take-all}
 use Rattle.gate.proofs.Truth.{and-left, and-right}
-use Rattle.chip.specs.declared.model.Chip.{Chip}
-use Rattle.crepulanter.specs.State.{row, flagOf, flagByte, placeOf, placeBytes, allFlags, headFits, bytesFit, chipOf, headOf, bytesOf}
+use Rattle.chip.specs.declared.chip.Chip.{Chip}
+use Rattle.crepulanter.specs.State.{row, flagOf, flagByte, phaseOf, phaseBytes, allFlags, headFits, bytesFit, chipOf, headOf, bytesOf}
 use Rattle.crepulanter.specs.Clean.{carriesBits, carriesHigh, cleared, Clean}
 use Rattle.crepulanter.proofs.RoundTrip.{row-part, chip-back, packed-length, packed-fit}
 
--- a place of a number up to 11 has that number, and keeps of three bytes what it carries
-place-cleared :
+-- a phase of a number up to 11 has that number, and keeps of three bytes what it carries
+phase-cleared :
     (n bits byte high : ℕ)
     → n ≤ 11
-    → placeBytes (placeOf n bits byte high)
+    → phaseBytes (phaseOf n bits byte high)
     ≡ n ∷ cond (carriesBits n) bits 0 ∷ cond (carriesBits n) byte 0 ∷ cond (carriesHigh n) high 0 ∷ []
-unfolding placeOf placeBytes carriesBits carriesHigh
-place-cleared zero bits byte high h = refl
-place-cleared (suc zero) bits byte high h = refl
-place-cleared (suc (suc zero)) bits byte high h = refl
-place-cleared (suc (suc (suc zero))) bits byte high h = refl
-place-cleared (suc (suc (suc (suc zero)))) bits byte high h = refl
-place-cleared (suc (suc (suc (suc (suc zero))))) bits byte high h = refl
-place-cleared (suc (suc (suc (suc (suc (suc zero)))))) bits byte high h = refl
-place-cleared (suc (suc (suc (suc (suc (suc (suc zero))))))) bits byte high h = refl
-place-cleared (suc (suc (suc (suc (suc (suc (suc (suc zero)))))))) bits byte high h = refl
-place-cleared (suc (suc (suc (suc (suc (suc (suc (suc (suc zero))))))))) bits byte high h = refl
-place-cleared (suc (suc (suc (suc (suc (suc (suc (suc (suc (suc zero)))))))))) bits byte high h = refl
-place-cleared (suc (suc (suc (suc (suc (suc (suc (suc (suc (suc (suc zero))))))))))) bits byte high h = refl
-place-cleared (suc (suc (suc (suc (suc (suc (suc (suc (suc (suc (suc (suc n)))))))))))) bits byte high h = absurd (omega arith)
+unfolding phaseOf phaseBytes carriesBits carriesHigh
+phase-cleared zero bits byte high h = refl
+phase-cleared (suc zero) bits byte high h = refl
+phase-cleared (suc (suc zero)) bits byte high h = refl
+phase-cleared (suc (suc (suc zero))) bits byte high h = refl
+phase-cleared (suc (suc (suc (suc zero)))) bits byte high h = refl
+phase-cleared (suc (suc (suc (suc (suc zero))))) bits byte high h = refl
+phase-cleared (suc (suc (suc (suc (suc (suc zero)))))) bits byte high h = refl
+phase-cleared (suc (suc (suc (suc (suc (suc (suc zero))))))) bits byte high h = refl
+phase-cleared (suc (suc (suc (suc (suc (suc (suc (suc zero)))))))) bits byte high h = refl
+phase-cleared (suc (suc (suc (suc (suc (suc (suc (suc (suc zero))))))))) bits byte high h = refl
+phase-cleared (suc (suc (suc (suc (suc (suc (suc (suc (suc (suc zero)))))))))) bits byte high h = refl
+phase-cleared (suc (suc (suc (suc (suc (suc (suc (suc (suc (suc (suc zero))))))))))) bits byte high h = refl
+phase-cleared (suc (suc (suc (suc (suc (suc (suc (suc (suc (suc (suc (suc n)))))))))))) bits byte high h = absurd (omega arith)
 
 -- a byte that is a flag's comes back
 byte-back : (x : ℕ) → leb x 1 ≡ true → flagByte (flagOf x) ≡ x
@@ -83,7 +83,7 @@ module _ (x0 x1 x2 x3 x4 x5 x6 x7 x8 x9 x10 x11 x12 x13 x14 x15 x16 : ℕ) (r : 
       let f4 = byte-back x4 (and-right (leb x2 1) (leb x4 1) h4) in
       let h2 = and-left (leb x2 1) (leb x4 1) h4 in
       let f2 = byte-back x2 h2 in
-      let place = place-cleared x12 x13 x14 x15 (leb-true x12 11 (and-right (leb x2 1 && leb x4 1 && leb x5 1 && leb x8 1 && leb x9 1 && leb x10 1 && leb x11 1) (leb x12 11) head)) in
+      let phase = phase-cleared x12 x13 x14 x15 (leb-true x12 11 (and-right (leb x2 1 && leb x4 1 && leb x5 1 && leb x8 1 && leb x9 1 && leb x10 1 && leb x11 1) (leb x12 11) head)) in
       let high : (x6 * 256 + x7) / 256 ≡ x6 = omega arith in
       let under : (x6 * 256 + x7) % 256 ≡ x7 = omega arith in
       λ i.
@@ -99,10 +99,10 @@ module _ (x0 x1 x2 x3 x4 x5 x6 x7 x8 x9 x10 x11 x12 x13 x14 x15 x16 : ℕ) (r : 
       ∷ f9 i
       ∷ f10 i
       ∷ f11 i
-      ∷ getD (place i) 0 0
-      ∷ getD (place i) 1 0
-      ∷ getD (place i) 2 0
-      ∷ getD (place i) 3 0
+      ∷ getD (phase i) 0 0
+      ∷ getD (phase i) 1 0
+      ∷ getD (phase i) 2 0
+      ∷ getD (phase i) 3 0
       ∷ x16
       ∷ rest i
 

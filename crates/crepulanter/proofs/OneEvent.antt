@@ -8,7 +8,7 @@ use lib.Dec.{leb, eqb}
 use lib.ListN.{getD}
 use Rattle.chip.specs.Event.{refusal, next, nextArray}
 use Rattle.chip.specs.Run.{ran, step, noteOf}
-use Rattle.chip.specs.declared.model.Chip.{Chip}
+use Rattle.chip.specs.declared.chip.Chip.{Chip}
 use Rattle.trace.specs.Bytes.{eventOf, allEvents, answerByte}
 use Rattle.trace.specs.Trace.{after, answersOf, runRefusal, unless, ranOf, runArray, runAnswers}
 use Rattle.crepulanter.specs.Calls.{checked, eventRefusal, runNumber, EventSays, RunSays}

@@ -1,5 +1,5 @@
 -- Packing and unpacking undo each other. A chip that is packed and unpacked is the chip, whatever its numbers, where its load has
--- its 32 places and bytes, as every chip of the code has; and bytes that fit come back with what their place does not carry cleared.
+-- its 32 places and bytes, as every chip of the code has; and bytes that fit come back with what their phase does not carry cleared.
 -- Assumes nothing.
 use Prim.Native.Nat.{ℕ, _+_, _<_, _≤_}
 use mathlib.Core.Bool.{Bool, true, false}
@@ -10,45 +10,45 @@ use native.Mathlib.Omega.{arith}
 use lib.Dec.{leb}
 use lib.ListN.{length, getD, take, drop, length-map, length-append, length-drop}
 use lib.Seq.{length-take-le, take-all, take-at, drop-at, getD-take, getD-drop, ext-getD}
-use Rattle.parts.specs.declared.transfer.Place.{Place}
-use Rattle.parts.specs.declared.transfer.Place.the-variants.{Standby, Slave, First, Second, Data, AckWrite, AckRead, AckFirst, AckByte, Sending, Waiting, Next}
-use Rattle.chip.specs.declared.model.Chip.{Chip}
+use Rattle.parts.specs.declared.phase.Phase.{Phase}
+use Rattle.parts.specs.declared.phase.Phase.the-variants.{Standby, Slave, First, Second, Data, AckWrite, AckRead, AckFirst, AckByte, Sending, Waiting, Next}
+use Rattle.chip.specs.declared.chip.Chip.{Chip}
 use Rattle.crepulanter.proofs.Rows.{length-row, row-at}
-use Rattle.crepulanter.specs.State.{row, flagOf, flagByte, placeOf, placeBytes, allFlags, headFits, bytesFit, chipOf, headOf, bytesOf}
+use Rattle.crepulanter.specs.State.{row, flagOf, flagByte, phaseOf, phaseBytes, allFlags, headFits, bytesFit, chipOf, headOf, bytesOf}
 
--- a place from its four bytes
-pub place-back :
-    (p : Place)
-    → placeOf (getD (placeBytes p) 0 0) (getD (placeBytes p) 1 0) (getD (placeBytes p) 2 0) (getD (placeBytes p) 3 0) ≡ p
-unfolding placeOf placeBytes
-place-back Standby = refl
-place-back (Slave bits got) = refl
-place-back (First bits got) = refl
-place-back (Second high bits got) = refl
-place-back (Data bits got) = refl
-place-back AckWrite = refl
-place-back AckRead = refl
-place-back (AckFirst high) = refl
-place-back AckByte = refl
-place-back (Sending bit byte) = refl
-place-back Waiting = refl
-place-back Next = refl
+-- a phase from its four bytes
+pub phase-back :
+    (p : Phase)
+    → phaseOf (getD (phaseBytes p) 0 0) (getD (phaseBytes p) 1 0) (getD (phaseBytes p) 2 0) (getD (phaseBytes p) 3 0) ≡ p
+unfolding phaseOf phaseBytes
+phase-back Standby = refl
+phase-back (Slave bits got) = refl
+phase-back (First bits got) = refl
+phase-back (Second high bits got) = refl
+phase-back (Data bits got) = refl
+phase-back AckWrite = refl
+phase-back AckRead = refl
+phase-back (AckFirst high) = refl
+phase-back AckByte = refl
+phase-back (Sending bit byte) = refl
+phase-back Waiting = refl
+phase-back Next = refl
 
 -- its number is one of the twelve
-pub place-fits : (p : Place) → leb (getD (placeBytes p) 0 0) 11 ≡ true
-unfolding placeBytes
-place-fits Standby = refl
-place-fits (Slave bits got) = refl
-place-fits (First bits got) = refl
-place-fits (Second high bits got) = refl
-place-fits (Data bits got) = refl
-place-fits AckWrite = refl
-place-fits AckRead = refl
-place-fits (AckFirst high) = refl
-place-fits AckByte = refl
-place-fits (Sending bit byte) = refl
-place-fits Waiting = refl
-place-fits Next = refl
+pub phase-fits : (p : Phase) → leb (getD (phaseBytes p) 0 0) 11 ≡ true
+unfolding phaseBytes
+phase-fits Standby = refl
+phase-fits (Slave bits got) = refl
+phase-fits (First bits got) = refl
+phase-fits (Second high bits got) = refl
+phase-fits (Data bits got) = refl
+phase-fits AckWrite = refl
+phase-fits AckRead = refl
+phase-fits (AckFirst high) = refl
+phase-fits AckByte = refl
+phase-fits (Sending bit byte) = refl
+phase-fits Waiting = refl
+phase-fits Next = refl
 
 -- a flag from its byte, and its byte is a flag's
 pub flag-back : (on : Bool) → flagOf (flagByte on) ≡ on
@@ -121,7 +121,7 @@ module _ (c : Chip) (places : length (c .load .places) ≡ 32) (bytes : length (
         busy = flag-back (c .busy) i;
         scl = flag-back (c .scl) i;
         line = flag-back (c .line) i;
-        place = place-back (c .place) i;
+        phase = phase-back (c .phase) i;
         load =
             record {
               bytes = packed-load i;
@@ -134,4 +134,4 @@ module _ (c : Chip) (places : length (c .load .places) ≡ 32) (bytes : length (
   pub packed-fit : bytesFit (bytesOf c) ≡ true
   unfolding bytesFit headFits bytesOf headOf flags
   packed-fit =
-      simp (flag-fits, place-fits, packed-places, flags-fit)
+      simp (flag-fits, phase-fits, packed-places, flags-fit)

@@ -14,13 +14,14 @@ use mathlib.Core.Path.{_≡_}
 use mathlib.Core.List.{List}
 use lib.Dec.{eqb, leb}
 use lib.ListN.{length}
-use Rattle.chip.specs.Event.{refusal, next, nextArray, made}
+use Rattle.chip.specs.Chip.{made}
+use Rattle.chip.specs.Event.{refusal, next, nextArray}
 use Rattle.recovery.specs.Recovery.{recoveryAnswer, recoveryArray}
 use Rattle.trace.specs.Bytes.{eventOf, answerByte}
 use Rattle.trace.specs.Trace.{ranOf, runArray, runAnswers}
 use Rattle.crepulanter.specs.State.{bytesFit, chipOf, bytesOf}
 
--- a place above 11 or a flag that is neither 0 nor 1 is refusal 2, after 1
+-- a phase above 11 or a flag that is neither 0 nor 1 is refusal 2, after 1
 unfoldable pub unfit : List ℕ → ℕ
 unfit xs = cond (eqb (length xs) 16384) 2 1
 

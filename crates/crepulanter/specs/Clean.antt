@@ -1,10 +1,10 @@
--- What a place carries, and the bytes of a chip with all else cleared: the form in which a call that is taken leaves them.
+-- What a phase carries, and the bytes of a chip with all else cleared: the form in which a call that is taken leaves them.
 --
 -- | Name | Meaning |
 -- |---|---|
--- | `carriesBits` | places whose bits and byte mean something: a byte is received or sent |
--- | `carriesHigh` | places that keep the first address byte |
--- | `cleared` | the bytes with 0 for bits, byte and high where the place does not carry them |
+-- | `carriesBits` | phases whose bits and byte mean something: a byte is received or sent |
+-- | `carriesHigh` | phases that keep the first address byte |
+-- | `cleared` | the bytes with 0 for bits, byte and high where the phase does not carry them |
 -- | `Clean` | 81 bytes that fit, the low byte of the counter a byte, with nothing to clear |
 use Prim.Native.Nat.{ℕ, _<_}
 use mathlib.Core.Bool.{Bool, true, cond, _&&_, _||_}
@@ -16,13 +16,13 @@ use Rattle.crepulanter.specs.State.{bytesFit}
 
 -- a slave, address or data byte, and the byte being sent
 unfoldable pub carriesBits : ℕ → Bool
-carriesBits place = leb 1 place && leb place 4 || eqb place 9
+carriesBits phase = leb 1 phase && leb phase 4 || eqb phase 9
 
 -- the second address byte, and the acknowledge of the first
 unfoldable pub carriesHigh : ℕ → Bool
-carriesHigh place = eqb place 3 || eqb place 7
+carriesHigh phase = eqb phase 3 || eqb phase 7
 
--- a field that the place does not carry comes back as 0
+-- a field that the phase does not carry comes back as 0
 unfoldable pub cleared : List ℕ → List ℕ
 cleared b =
     take 13 b

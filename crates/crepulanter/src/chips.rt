@@ -4,7 +4,7 @@ ghost use Rattle.crepulanter.specs.Calls.{unfit, NewSays, EventSays, Run
 use crate::packing::pack;
 use crate::unpacking::bytes_fit;
 use crate::unpacking::unpack;
-use chip::model::Chip;
+use chip::chip::Chip;
 use recovery::recover;
 use trace::run;
 

@@ -1,9 +1,9 @@
 // From a chip to its bytes.
 ghost use mathlib.Core.Path.{_≡_};
 ghost use mathlib.Core.List.{_++_, map};
-ghost use Rattle.crepulanter.specs.State.{flagByte, placeBytes, headOf, bytesOf};
-use chip::model::Chip;
-use parts::transfer::Place;
+ghost use Rattle.crepulanter.specs.State.{flagByte, phaseBytes, headOf, bytesOf};
+use chip::chip::Chip;
+use parts::phase::Phase;
 
 // 1 for a flag that is set, else 0.
 pub(crate) fn flag_byte(on: bool) -> u8
@@ -12,23 +12,23 @@ pub(crate) fn flag_byte(on: bool) -> u8
     if on { 1 } else { 0 }
 }
 
-// The four bytes of a place: its number, bits, byte and high, where 0 stands for what it does not carry.
-fn place_bytes(place: Place) -> [u8; 4]
-    ensures { λ r. ⌜ r ≡ placeBytes place ⌝ }
+// The four bytes of a phase: its number, bits, byte and high, where 0 stands for what it does not carry.
+fn phase_bytes(phase: Phase) -> [u8; 4]
+    ensures { λ r. ⌜ r ≡ phaseBytes phase ⌝ }
 {
-    match place {
-        Place::Standby => [0, 0, 0, 0],
-        Place::Slave { bits, got } => [1, bits, got, 0],
-        Place::First { bits, got } => [2, bits, got, 0],
-        Place::Second { high, bits, got } => [3, bits, got, high],
-        Place::Data { bits, got } => [4, bits, got, 0],
-        Place::AckWrite => [5, 0, 0, 0],
-        Place::AckRead => [6, 0, 0, 0],
-        Place::AckFirst { high } => [7, 0, 0, high],
-        Place::AckByte => [8, 0, 0, 0],
-        Place::Sending { bit, byte } => [9, bit, byte, 0],
-        Place::Waiting => [10, 0, 0, 0],
-        Place::Next => [11, 0, 0, 0],
+    match phase {
+        Phase::Standby => [0, 0, 0, 0],
+        Phase::Slave { bits, got } => [1, bits, got, 0],
+        Phase::First { bits, got } => [2, bits, got, 0],
+        Phase::Second { high, bits, got } => [3, bits, got, high],
+        Phase::Data { bits, got } => [4, bits, got, 0],
+        Phase::AckWrite => [5, 0, 0, 0],
+        Phase::AckRead => [6, 0, 0, 0],
+        Phase::AckFirst { high } => [7, 0, 0, high],
+        Phase::AckByte => [8, 0, 0, 0],
+        Phase::Sending { bit, byte } => [9, bit, byte, 0],
+        Phase::Waiting => [10, 0, 0, 0],
+        Phase::Next => [11, 0, 0, 0],
     }
 }
 
@@ -38,8 +38,8 @@ fn head_bytes(chip: Chip) -> [u8; 17]
 {
     let register = chip.register;
     let load = chip.load;
-    let place = chip.place;
-    let four = place_bytes(place);
+    let phase = chip.phase;
+    let four = phase_bytes(phase);
     [
         chip.part,
         chip.select,

@@ -2,33 +2,33 @@
 ghost use mathlib.Core.Path.{_≡_};
 ghost use mathlib.Core.List.{map};
 ghost use Prim.Native.Nat.{_+_, _*_};
-ghost use Rattle.crepulanter.specs.State.{row, flagOf, placeOf, allFlags, headFits, bytesFit, chipOf};
-use chip::model::Chip;
-use parts::bits::Register;
-use parts::sector::Load;
-use parts::transfer::Place;
+ghost use Rattle.crepulanter.specs.State.{row, flagOf, phaseOf, allFlags, headFits, bytesFit, chipOf};
+use chip::chip::Chip;
+use parts::load::Load;
+use parts::phase::Phase;
+use parts::register::Register;
 
-// The place of a number from 0 to 11, with those of the three bytes beside it that it carries.
-fn place_of(number: u8, bits: u8, byte: u8, high: u8) -> Place
-    ensures { λ r. ⌜ r ≡ placeOf number bits byte high ⌝ }
+// The phase of a number from 0 to 11, with those of the three bytes beside it that it carries.
+fn phase_of(number: u8, bits: u8, byte: u8, high: u8) -> Phase
+    ensures { λ r. ⌜ r ≡ phaseOf number bits byte high ⌝ }
 {
     match number {
-        0 => Place::Standby,
-        1 => Place::Slave { bits, got: byte },
-        2 => Place::First { bits, got: byte },
-        3 => Place::Second {
+        0 => Phase::Standby,
+        1 => Phase::Slave { bits, got: byte },
+        2 => Phase::First { bits, got: byte },
+        3 => Phase::Second {
             high,
             bits,
             got: byte,
         },
-        4 => Place::Data { bits, got: byte },
-        5 => Place::AckWrite,
-        6 => Place::AckRead,
-        7 => Place::AckFirst { high },
-        8 => Place::AckByte,
-        9 => Place::Sending { bit: bits, byte },
-        10 => Place::Waiting,
-        _ => Place::Next,
+        4 => Phase::Data { bits, got: byte },
+        5 => Phase::AckWrite,
+        6 => Phase::AckRead,
+        7 => Phase::AckFirst { high },
+        8 => Phase::AckByte,
+        9 => Phase::Sending { bit: bits, byte },
+        10 => Phase::Waiting,
+        _ => Phase::Next,
     }
 }
 
@@ -69,7 +69,7 @@ fn load_of(state: &[u8; 81]) -> [u8; 32]
 pub(crate) fn unpack(state: &[u8; 81]) -> Chip
     ensures { λ r. ⌜ r ≡ chipOf (now (state .entry)) ⌝ }
 {
-    let place = place_of(state[12], state[13], state[14], state[15]);
+    let phase = phase_of(state[12], state[13], state[14], state[15]);
     let places = places_of(state);
     let bytes = load_of(state);
     let counter = counter_of(state[6], state[7]);
@@ -87,7 +87,7 @@ pub(crate) fn unpack(state: &[u8; 81]) -> Chip
         busy: state[9] == 1,
         scl: state[10] == 1,
         line: state[11] == 1,
-        place: place,
+        phase: phase,
         load: Load {
             bytes: bytes,
             places: places,
@@ -109,7 +109,7 @@ fn places_fit(state: &[u8; 81]) -> bool
     fit
 }
 
-// Whether the place is one of the twelve and each flag before it is 0 or 1.
+// Whether the phase is one of the twelve and each flag before it is 0 or 1.
 fn head_fits(state: &[u8; 81]) -> bool
     ensures { λ r. ⌜ r ≡ headFits (now (state .entry)) ⌝ }
 {
@@ -123,7 +123,7 @@ fn head_fits(state: &[u8; 81]) -> bool
         & (state[12] <= 11)
 }
 
-// Whether the place is one of the twelve and each flag is 0 or 1.
+// Whether the phase is one of the twelve and each flag is 0 or 1.
 pub(crate) fn bytes_fit(state: &[u8; 81]) -> bool
     ensures { λ r. ⌜ r ≡ bytesFit (now (state .entry)) ⌝ }
 {

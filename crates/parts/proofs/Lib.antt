@@ -1,6 +1,6 @@
 pub mod CondLaws
 pub mod LoadLaws
 pub mod LockLaws
-pub mod PlaceLaws
+pub mod PhaseLaws
 pub mod RegisterLaws
 pub mod SectorLaws

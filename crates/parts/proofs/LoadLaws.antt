@@ -12,7 +12,7 @@ use lib.ListN.{length, getD, set, length-set, List·getD-eq-default}
 use lib.Seq.{getD-set-same, getD-set-other}
 use Rattle.parts.specs.Load.{storedTo, stored, loaded, counted}
 use Rattle.parts.specs.Sector.{sectorStart}
-use Rattle.parts.specs.declared.sector.Load.{Load}
+use Rattle.parts.specs.declared.load.Load.{Load}
 use Rattle.parts.proofs.CondLaws.{cond-by}
 
 -- one place of a store keeps the length

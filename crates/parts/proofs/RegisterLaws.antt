@@ -4,18 +4,18 @@ use mathlib.Core.Bool.{Bool, true, false, not, _&&_, _||_, true≢false}
 use mathlib.Core.Path.{_≡_, refl, sym, _∙_}
 use native.Mathlib.Omega.{arith}
 use lib.Dec.{eqb}
-use Rattle.parts.specs.Register.{written, latchWritten, lockWritten, latched, withPel, withRpel, reserved}
-use Rattle.parts.specs.declared.bits.Register.{Register}
-use Rattle.parts.specs.declared.bits.Written.{Written}
+use Rattle.parts.specs.Register.{written, latchWritten, lockWritten, outcome, withPel, withRpel, reserved}
+use Rattle.parts.specs.declared.register.Register.{Register}
+use Rattle.parts.specs.declared.register.Written.{Written}
 use Rattle.parts.proofs.CondLaws.{cond-by}
 
 -- the rule for RPEL 0 keeps PPEN and BL: what holds of these holds after it
 latch-by : (P : Bool → ℕ → Type 0) (r : Register) (byte : ℕ) → P (r .ppen) (r .bl) → P (latchWritten r byte .register .ppen) (latchWritten r byte .register .bl)
 unfolding latchWritten
 latch-by P r byte h =
-    cond-by Q (eqb byte 0x00) (latched (withPel r false) false 3) _ (λ e. h)
-    (λ e. cond-by Q (eqb byte 0x02) (latched (withPel r true) false 3) _ (λ f. h)
-    (λ f. cond-by Q (eqb byte 0x06 && r .pel) (latched (withRpel r true) false 3) (latched r false 6) (λ g. h) (λ g. h)))
+    cond-by Q (eqb byte 0x00) (outcome (withPel r false) false 3) _ (λ e. h)
+    (λ e. cond-by Q (eqb byte 0x02) (outcome (withPel r true) false 3) _ (λ f. h)
+    (λ f. cond-by Q (eqb byte 0x06 && r .pel) (outcome (withRpel r true) false 3) (outcome r false 6) (λ g. h) (λ g. h)))
   where
     Q : Written → Type 0
     Q w = P (w .register .ppen) (w .register .bl)
@@ -26,9 +26,9 @@ pub written-by : (P : Bool → ℕ → Type 0) (r : Register) (byte : ℕ) (pin 
     → P (written r byte pin .register .ppen) (written r byte pin .register .bl)
 unfolding written lockWritten
 written-by P r byte pin h new =
-    cond-by Q (reserved byte) (latched r false 6) _ (λ e. h)
+    cond-by Q (reserved byte) (outcome r false 6) _ (λ e. h)
     (λ e. cond-by Q (r .rpel) _ (latchWritten r byte)
-    (λ f. cond-by Q (not (eqb (byte % 8) 0b010) || (r .ppen && pin)) (latched r false 6) _ (λ g. h) (λ g. new (or-right (not (eqb (byte % 8) 0b010)) (r .ppen && pin) g) _))
+    (λ f. cond-by Q (not (eqb (byte % 8) 0b010) || (r .ppen && pin)) (outcome r false 6) _ (λ g. h) (λ g. new (or-right (not (eqb (byte % 8) 0b010)) (r .ppen && pin) g) _))
     (λ f. latch-by P r byte h))
   where
     Q : Written → Type 0

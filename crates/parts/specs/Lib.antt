@@ -1,5 +1,5 @@
 pub mod Load
 pub mod Locks
-pub mod Place
+pub mod Phase
 pub mod Register
 pub mod Sector

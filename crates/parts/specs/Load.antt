@@ -13,7 +13,7 @@ use mathlib.Core.Bool.{Bool, true, false, cond}
 use mathlib.Core.List.{List}
 use lib.Dec.{ltb}
 use lib.ListN.{getD, set, replicate}
-use Rattle.parts.specs.declared.sector.Load.{Load}
+use Rattle.parts.specs.declared.load.Load.{Load}
 
 -- zeros, no place loaded, count 0
 abbrev pub noLoad : Load

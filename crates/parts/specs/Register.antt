@@ -4,24 +4,24 @@
 -- | Name | Meaning |
 -- |---|---|
 -- | `registerByte` | the byte that a read sends |
--- | `latched r busy note` | the outcome of a write: the register after it, whether a cycle begins, the note |
+-- | `outcome r busy note` | the outcome of a write: the register after it, whether a cycle begins, the note |
 -- | `withPel`, `withRpel` | the register with one bit set or cleared |
 -- | `reserved`, `latchWritten`, `lockWritten` | rules 1, 2 and 3 |
 -- | `written r byte pin` | what a byte does, with the protect pin at the stop |
 use Prim.Native.Nat.{ℕ, _+_, _*_, _/_, _%_}
 use mathlib.Core.Bool.{Bool, true, false, cond, not, _&&_, _||_}
 use lib.Dec.{eqb}
-use Rattle.parts.specs.Place.{weight, bitOf}
-use Rattle.parts.specs.declared.bits.Register.{Register}
-use Rattle.parts.specs.declared.bits.Written.{Written}
+use Rattle.parts.specs.Phase.{weight, bitOf}
+use Rattle.parts.specs.declared.register.Register.{Register}
+use Rattle.parts.specs.declared.register.Written.{Written}
 
 -- from bit 7 down: PPEN, 0, 0, BL1, BL0, RPEL, PEL, 0
 abbrev pub registerByte : Register → ℕ
 registerByte r = weight (r .ppen) 0x80 + r .bl % 4 * 8 + weight (r .rpel) 4 + weight (r .pel) 2
 
 -- an outcome
-abbrev pub latched : Register → Bool → ℕ → Written
-latched r busy note = record { register = r; busy = busy; note = note }
+abbrev pub outcome : Register → Bool → ℕ → Written
+outcome r busy note = record { register = r; busy = busy; note = note }
 
 -- one bit of the register
 abbrev pub withPel : Register → Bool → Register
@@ -37,18 +37,18 @@ reserved byte = bitOf byte 0 || bitOf byte 5 || bitOf byte 6
 -- rule 2, RPEL clear: 00h and 02h write PEL, 06h sets RPEL where PEL is set; note 3, and 6 for any other byte
 unfoldable pub latchWritten : Register → ℕ → Written
 latchWritten r byte =
-    cond (eqb byte 0x00) (latched (withPel r false) false 3)
-    (cond (eqb byte 0x02) (latched (withPel r true) false 3)
-    (cond (eqb byte 0x06 && r .pel) (latched (withRpel r true) false 3)
-    (latched r false 6)))
+    cond (eqb byte 0x00) (outcome (withPel r false) false 3)
+    (cond (eqb byte 0x02) (outcome (withPel r true) false 3)
+    (cond (eqb byte 0x06 && r .pel) (outcome (withRpel r true) false 3)
+    (outcome r false 6)))
 
 -- rule 3, RPEL set: low bits other than 010, or PPEN set and the pin high, are note 6; else PPEN and BL are written, RPEL is cleared
 -- and a cycle begins, note 2
 unfoldable pub lockWritten : Register → ℕ → Bool → Written
 lockWritten r byte pin =
-    cond (not (eqb (byte % 8) 0b010) || (r .ppen && pin)) (latched r false 6)
-    (latched (record { ppen = bitOf byte 7; bl = byte / 8 % 4; rpel = false; pel = r .pel }) true 2)
+    cond (not (eqb (byte % 8) 0b010) || (r .ppen && pin)) (outcome r false 6)
+    (outcome (record { ppen = bitOf byte 7; bl = byte / 8 % 4; rpel = false; pel = r .pel }) true 2)
 
 -- the rules in their order
 unfoldable pub written : Register → ℕ → Bool → Written
-written r byte pin = cond (reserved byte) (latched r false 6) (cond (r .rpel) (lockWritten r byte pin) (latchWritten r byte))
+written r byte pin = cond (reserved byte) (outcome r false 6) (cond (r .rpel) (lockWritten r byte pin) (latchWritten r byte))

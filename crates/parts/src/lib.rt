@@ -1,5 +1,6 @@
-// What a chip is made of, each part with its own rules: the place in a transfer, the register, the load, the locks.
-pub mod bits;
+// What a chip is made of, each part with its own rules: the phase of a transfer, the register, the load, the sectors, the locks.
+pub mod load;
 pub mod locks;
+pub mod phase;
+pub mod register;
 pub mod sector;
-pub mod transfer;

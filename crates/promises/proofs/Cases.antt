@@ -3,7 +3,7 @@
 use lib.Dec.{T}
 use Rattle.parts.specs.Load.{loaded, storedTo}
 use Rattle.parts.specs.Locks.{firstLocked}
-use Rattle.parts.specs.Place.{placeFits, placePulls, risen}
+use Rattle.parts.specs.Phase.{phaseFits, phasePulls, risen}
 use Rattle.parts.specs.Register.{latchWritten, lockWritten, written}
 use Rattle.chip.specs.Chip.{chipFits, pulls}
 use Rattle.chip.specs.Event.{reacted, reactedArray, sampled, sampledArray, next, nextArray, refusal}
@@ -23,7 +23,7 @@ use Rattle.promises.specs.Cases.{holds, worked, errors}
 
 -- both lists, computed
 computed : T (holds worked) × T (holds errors)
-unfolding loaded storedTo firstLocked placeFits placePulls risen latchWritten lockWritten written chipFits pulls reacted reactedArray sampled sampledArray next nextArray refusal step noteOf ran lines notes rightly arrayEffect rightEffect stopEffect effectMoved effectArray slaveTaken addressTaken arrayData registerData byteBegun byteEnded fallIn edgeOf afterPulses pulse pulsed recovered recoveryAnswer inRange same bits16 signed16 labelByte recordOf writeOf writtenOf isFree labelFits limitsFit heldOf readOf byteSent clocks bytesTaken byteTaken randomRead highs bitsIn byteOf
+unfolding loaded storedTo firstLocked phaseFits phasePulls risen latchWritten lockWritten written chipFits pulls reacted reactedArray sampled sampledArray next nextArray refusal step noteOf ran lines notes rightly arrayEffect rightEffect stopEffect effectMoved effectArray slaveTaken addressTaken arrayData registerData byteBegun byteEnded fallIn edgeOf afterPulses pulse pulsed recovered recoveryAnswer inRange same bits16 signed16 labelByte recordOf writeOf writtenOf isFree labelFits limitsFit heldOf readOf byteSent clocks bytesTaken byteTaken randomRead highs bitsIn byteOf
 computed = (tt, tt)
 
 -- "Worked on the bench": cases 1-12

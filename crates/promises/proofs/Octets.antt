@@ -7,20 +7,20 @@ use native.Mathlib.Omega.{arith}
 use lib.Dec.{eqb, ltb}
 use lib.ListN.{getD, set, replicate}
 use Rattle.parts.specs.Load.{noLoad, loaded, storedTo}
-use Rattle.parts.specs.Place.{received, risen}
+use Rattle.parts.specs.Phase.{received, risen}
 use Rattle.parts.specs.Sector.{nextPlace, nextAddress, sectorStart}
-use Rattle.parts.specs.declared.sector.Load.{Load}
-use Rattle.parts.specs.declared.transfer.Place.{Place}
-use Rattle.parts.specs.declared.transfer.Place.the-variants.{Standby, Slave, First, Second, Data, AckWrite, AckRead, AckFirst, AckByte, Sending, Waiting, Next}
+use Rattle.parts.specs.declared.load.Load.{Load}
+use Rattle.parts.specs.declared.phase.Phase.{Phase}
+use Rattle.parts.specs.declared.phase.Phase.the-variants.{Standby, Slave, First, Second, Data, AckWrite, AckRead, AckFirst, AckByte, Sending, Waiting, Next}
 use Rattle.parts.proofs.CondLaws.{cond-by}
 use Rattle.chip.specs.Chip.{newChip}
 use Rattle.chip.specs.Event.{next, nextArray, sampled, sampledArray, reacted, reactedArray, edgeIn, lineIn}
 use Rattle.chip.specs.Run.{World, world, step, ran}
 use Rattle.chip.specs.Stop.{effectMoved, effectArray}
-use Rattle.chip.specs.Transfer.{moved, quiet, placedAt, atPlace, emptyAt, addressed, fallIn, slaveTaken, addressTaken, arrayData, registerData, byteBegun, byteEnded}
-use Rattle.chip.specs.declared.model.Chip.{Chip}
-use Rattle.chip.specs.declared.model.Effect.{Effect}
-use Rattle.chip.specs.declared.model.Moved.{Moved}
+use Rattle.chip.specs.Transfer.{moved, quiet, withTransfer, atPhase, emptyAt, addressed, fallIn, slaveTaken, addressTaken, arrayData, registerData, byteBegun, byteEnded}
+use Rattle.chip.specs.declared.chip.Chip.{Chip}
+use Rattle.chip.specs.declared.chip.Effect.{Effect}
+use Rattle.chip.specs.declared.chip.Moved.{Moved}
 use Rattle.chip.specs.declared.wire.Edge.{Edge}
 use Rattle.chip.specs.declared.wire.Edge.the-variants.{Quiet, Start, Stop, Rise, Fall}
 use Rattle.chip.specs.declared.wire.Event.{Event}
@@ -54,7 +54,7 @@ stored-bytes (suc k) xs start load h l =
     (λ e. stored-bytes k xs start load h l)
 
 -- what was received of a data byte, which alone reaches a load
-gotOf : Place → ℕ
+gotOf : Phase → ℕ
 gotOf Standby = 0
 gotOf (Slave bits got) = 0
 gotOf (First bits got) = 0
@@ -69,20 +69,20 @@ gotOf Waiting = 0
 gotOf Next = 0
 
 -- which is a byte
-abbrev Small : Place → Type 0
+abbrev Small : Phase → Type 0
 Small p = gotOf p < 256
 
 -- the load and what comes into it are bytes
-record Octets (load : Load) (p : Place) : Type 0 where
+record Octets (load : Load) (p : Phase) : Type 0 where
   loads : Bytes (load .bytes)
   got : Small p
 
 -- of a chip
 abbrev In : Chip → Type 0
-In c = Octets (c .load) (c .place)
+In c = Octets (c .load) (c .phase)
 
 -- an empty load
-none-in : (p : Place) → Small p → Octets noLoad p
+none-in : (p : Phase) → Small p → Octets noLoad p
 none-in p g = record { loads = same-bytes 32 0 (omega arith); got = g }
 
 -- a load with a byte more
@@ -91,7 +91,7 @@ unfolding loaded gotOf
 loaded-in load at byte l b = record { loads = set-bytes (load .bytes) (at % 32) byte l b; got = omega arith }
 
 -- eight bits are a byte
-risen-got : (p : Place) (bit : Bool) → Small p → Small (risen p bit)
+risen-got : (p : Phase) (bit : Bool) → Small p → Small (risen p bit)
 unfolding gotOf risen
 risen-got Standby bit h = h
 risen-got (Slave bits got) bit h = cond-by Small (ltb bits 8) (Slave (bits + 1) (received got bit)) (Slave bits got) (λ e. h) (λ e. h)
@@ -106,8 +106,8 @@ risen-got (Sending i byte) bit h = h
 risen-got Waiting bit h = cond-by Small bit Standby Next (λ e. h) (λ e. h)
 risen-got Next bit h = h
 
--- a place that holds no data byte
-at-in : (c : Chip) (p : Place) → gotOf p ≡ 0 → In c → In (atPlace c p)
+-- a phase that holds no data byte
+at-in : (c : Chip) (p : Phase) → gotOf p ≡ 0 → In c → In (atPhase c p)
 at-in c p g o = record { loads = o .loads; got = omega arith }
 
 -- a data byte that is taken
@@ -116,26 +116,26 @@ unfolding registerData arrayData gotOf
 data-in c byte o b =
     cond-by (λ (m : Moved). In (m .chip)) (c .mark) (registerData c byte) (arrayData c byte)
     (λ marked. cond-by (λ (m : Moved). In (m .chip)) (eqb (c .load .count) 0)
-    (quiet (placedAt c AckByte (c .counter) (c .mark) (loaded (c .load) 0 byte))) (moved (emptyAt c Standby) 7)
+    (quiet (withTransfer c AckByte (c .counter) (c .mark) (loaded (c .load) 0 byte))) (moved (emptyAt c Standby) 7)
     (λ e. loaded-in (c .load) 0 byte (o .loads) b) (λ e. none-in Standby (omega arith)))
     (λ unmarked. cond-by In (c .register .pel)
-    (placedAt c AckByte (nextPlace (c .counter)) (c .mark) (loaded (c .load) (c .counter) byte)) (atPlace c Standby)
+    (withTransfer c AckByte (nextPlace (c .counter)) (c .mark) (loaded (c .load) (c .counter) byte)) (atPhase c Standby)
     (λ e. loaded-in (c .load) (c .counter) byte (o .loads) b) (λ e. at-in c Standby refl o))
 
 -- a clock fall
-fall-in : (p : Place) (c : Chip) (xs : List ℕ) → c .place ≡ p → In c → In (fallIn p c xs .chip)
+fall-in : (p : Phase) (c : Chip) (xs : List ℕ) → c .phase ≡ p → In c → In (fallIn p c xs .chip)
 unfolding fallIn slaveTaken addressTaken byteBegun byteEnded gotOf
 fall-in Standby c xs e o = o
 fall-in (Slave bits got) c xs e o =
     cond-by In (eqb bits 8) (slaveTaken c got) c
-    (λ t. cond-by (λ (p : Place). In (atPlace c p)) (addressed (c .select) got) (cond (eqb (got % 2) 0) AckWrite AckRead) Standby
-    (λ a. cond-by (λ (p : Place). In (atPlace c p)) (eqb (got % 2) 0) AckWrite AckRead (λ w. at-in c AckWrite refl o) (λ r. at-in c AckRead refl o))
+    (λ t. cond-by (λ (p : Phase). In (atPhase c p)) (addressed (c .select) got) (cond (eqb (got % 2) 0) AckWrite AckRead) Standby
+    (λ a. cond-by (λ (p : Phase). In (atPhase c p)) (eqb (got % 2) 0) AckWrite AckRead (λ w. at-in c AckWrite refl o) (λ r. at-in c AckRead refl o))
     (λ a. at-in c Standby refl o))
     (λ t. o)
-fall-in (First bits got) c xs e o = cond-by In (eqb bits 8) (atPlace c (AckFirst got)) c (λ t. at-in c (AckFirst got) refl o) (λ t. o)
+fall-in (First bits got) c xs e o = cond-by In (eqb bits 8) (atPhase c (AckFirst got)) c (λ t. at-in c (AckFirst got) refl o) (λ t. o)
 fall-in (Second high bits got) c xs e o =
     cond-by In (eqb bits 8) (addressTaken c (high * 256 + got)) c
-    (λ t. cond-by In (eqb (high * 256 + got) 0xffff) (placedAt c AckByte (c .counter) true (c .load)) (placedAt c AckByte ((high * 256 + got) % 0x4000) false (c .load))
+    (λ t. cond-by In (eqb (high * 256 + got) 0xffff) (withTransfer c AckByte (c .counter) true (c .load)) (withTransfer c AckByte ((high * 256 + got) % 0x4000) false (c .load))
     (λ m. at-in c AckByte refl o) (λ m. at-in c AckByte refl o))
     (λ t. o)
 fall-in (Data bits got) c xs e o =
@@ -146,7 +146,7 @@ fall-in AckRead c xs e o = at-in c (Sending 7 _) refl o
 fall-in (AckFirst high) c xs e o = at-in c (Second high 0 0) refl o
 fall-in AckByte c xs e o = at-in c (Data 0 0) refl o
 fall-in (Sending zero byte) c xs e o =
-    cond-by In (c .mark) (placedAt c Standby 0x0000 false (c .load)) (placedAt c Waiting (nextAddress (c .counter)) (c .mark) (c .load))
+    cond-by In (c .mark) (withTransfer c Standby 0x0000 false (c .load)) (withTransfer c Waiting (nextAddress (c .counter)) (c .mark) (c .load))
     (λ m. at-in c Standby refl o) (λ m. at-in c Waiting refl o)
 fall-in (Sending (suc bit) byte) c xs e o = at-in c (Sending bit byte) refl o
 fall-in Waiting c xs e o = o
@@ -166,8 +166,8 @@ react-in Stop c line pin xs o =
     (λ note. (none-in Standby (omega arith), o .1))
     (λ taken marked. (none-in Standby (omega arith), o .1))
     (λ taken storable. (none-in Standby (omega arith), stored-bytes 32 xs (sectorStart (c .counter)) (c .load) (o .1) (o .0 .loads)))
-react-in Rise c line pin xs o = (record { loads = o .0 .loads; got = risen-got (c .place) line (o .0 .got) }, o .1)
-react-in Fall c line pin xs o = (fall-in (c .place) c xs refl (o .0), o .1)
+react-in Rise c line pin xs o = (record { loads = o .0 .loads; got = risen-got (c .phase) line (o .0 .got) }, o .1)
+react-in Fall c line pin xs o = (fall-in (c .phase) c xs refl (o .0), o .1)
 
 -- a sample, on a busy chip or an idle one
 sample-in : (busy : Bool) (c : Chip) (xs : List ℕ) (s : Levels) → Both c xs

@@ -9,16 +9,17 @@ use contract.Lifetimes.{Lfts}
 use denote.Ref.{now}
 use Rattle.parts.specs.Load.{noLoad, loaded, stored}
 use Rattle.parts.specs.Locks.{firstLocked}
-use Rattle.parts.specs.Place.{received, bitOf, placeFits, placePulls, risen}
+use Rattle.parts.specs.Phase.{received, bitOf, phaseFits, phasePulls, risen}
 use Rattle.parts.specs.Register.{registerByte, written}
 use Rattle.parts.specs.Sector.{sectorStart, nextPlace, nextAddress}
-use Rattle.parts.proofs.bits
+use Rattle.parts.proofs.register
+use Rattle.parts.proofs.load
 use Rattle.parts.proofs.locks
 use Rattle.parts.proofs.sector
-use Rattle.parts.proofs.transfer
-use Rattle.chip.specs.Chip.{standardChip}
-use Rattle.chip.specs.Event.{next, nextArray, refusal, eventAnswer, eventArray, made}
-use Rattle.chip.proofs.model.Chip
+use Rattle.parts.proofs.phase
+use Rattle.chip.specs.Chip.{standardChip, made}
+use Rattle.chip.specs.Event.{next, nextArray, refusal, eventAnswer, eventArray}
+use Rattle.chip.proofs.chip.Chip
 use Rattle.trace.specs.Bytes.{eventOf, answerByte}
 use Rattle.trace.specs.Trace.{ranOf, runArray, runAnswers}
 use Rattle.trace.proofs as trace
@@ -67,32 +68,32 @@ shownName =
 -- the public operations, crate by crate
 pub operations : List Operation
 operations =
-    -- parts::transfer::bit_of
-    one (whole 0 transfer.bit_of.Kinds.ps transfer.bit_of.Kinds.r transfer.bit_of.Reads.Post)
+    -- parts::phase::bit_of
+    one (whole 0 phase.bit_of.Kinds.ps phase.bit_of.Kinds.r phase.bit_of.Reads.Post)
     (λ κs (byte, (bit, end)). (bitOf byte bit, (tt, (tt, tt))))
     (λ κs input r left. alone)
-    -- parts::transfer::with_bit
-    ∷ one (whole 0 transfer.with_bit.Kinds.ps transfer.with_bit.Kinds.r transfer.with_bit.Reads.Post)
+    -- parts::phase::with_bit
+    ∷ one (whole 0 phase.with_bit.Kinds.ps phase.with_bit.Kinds.r phase.with_bit.Reads.Post)
     (λ κs (got, (bit, end)). (received got bit, (tt, (tt, tt))))
     (λ κs input r left. alone)
-    -- Place::fits
-    ∷ one (whole 0 transfer.Place.fits.Kinds.ps transfer.Place.fits.Kinds.r transfer.Place.fits.Reads.Post)
-    (λ κs (self, end). (placeFits self, (tt, tt)))
+    -- Phase::fits
+    ∷ one (whole 0 phase.Phase.fits.Kinds.ps phase.Phase.fits.Kinds.r phase.Phase.fits.Reads.Post)
+    (λ κs (self, end). (phaseFits self, (tt, tt)))
     (λ κs input r left. alone)
-    -- Place::pulls
-    ∷ one (whole 0 transfer.Place.pulls.Kinds.ps transfer.Place.pulls.Kinds.r transfer.Place.pulls.Reads.Post)
-    (λ κs (self, end). (placePulls self, (tt, tt)))
+    -- Phase::pulls
+    ∷ one (whole 0 phase.Phase.pulls.Kinds.ps phase.Phase.pulls.Kinds.r phase.Phase.pulls.Reads.Post)
+    (λ κs (self, end). (phasePulls self, (tt, tt)))
     (λ κs input r left. alone)
-    -- Place::risen
-    ∷ one (whole 0 transfer.Place.risen.Kinds.ps transfer.Place.risen.Kinds.r transfer.Place.risen.Reads.Post)
+    -- Phase::risen
+    ∷ one (whole 0 phase.Phase.risen.Kinds.ps phase.Phase.risen.Kinds.r phase.Phase.risen.Reads.Post)
     (λ κs (self, (bit, end)). (risen self bit, (tt, (tt, tt))))
     (λ κs input r left. alone)
     -- Register::byte
-    ∷ one (whole 0 bits.Register.byte.Kinds.ps bits.Register.byte.Kinds.r bits.Register.byte.Reads.Post)
+    ∷ one (whole 0 register.Register.byte.Kinds.ps register.Register.byte.Kinds.r register.Register.byte.Reads.Post)
     (λ κs (self, end). (registerByte self, (tt, tt)))
     (λ κs input r left. alone)
     -- Register::written
-    ∷ one (whole 0 bits.Register.written.Kinds.ps bits.Register.written.Kinds.r bits.Register.written.Reads.Post)
+    ∷ one (whole 0 register.Register.written.Kinds.ps register.Register.written.Kinds.r register.Register.written.Reads.Post)
     (λ κs (self, (byte, (pin, end))). (written self byte pin, (tt, (tt, (tt, tt)))))
     (λ κs input r left. alone)
     -- parts::locks::first_locked
@@ -112,15 +113,15 @@ operations =
     (λ κs (address, end). (nextAddress address, (tt, tt)))
     (λ κs input r left. alone)
     -- Load::none
-    ∷ one (whole 0 sector.Load.none.Kinds.ps sector.Load.none.Kinds.r sector.Load.none.Reads.Post)
+    ∷ one (whole 0 load.Load.none.Kinds.ps load.Load.none.Kinds.r load.Load.none.Reads.Post)
     (λ κs end. (noLoad, tt))
     (λ κs input r left. alone)
     -- Load::with
-    ∷ one (whole 0 sector.Load.with.Kinds.ps sector.Load.with.Kinds.r sector.Load.with.Reads.Post)
+    ∷ one (whole 0 load.Load.with.Kinds.ps load.Load.with.Kinds.r load.Load.with.Reads.Post)
     (λ κs (self, (at, (byte, end))). (loaded self at byte, (tt, (tt, (tt, tt)))))
     (λ κs input r left. alone)
     -- Load::store, which answers nothing and stores in the array
-    ∷ one (whole 1 sector.Load.store.Kinds.ps sector.Load.store.Kinds.r sector.Load.store.Reads.Post)
+    ∷ one (whole 1 load.Load.store.Kinds.ps load.Load.store.Kinds.r load.Load.store.Reads.Post)
     (λ κs (self, (array, (start, end))). (tt, (tt, (stored (now array) start self, (tt, tt)))))
     (λ κs input r left p i. (tt, (tt, (p i, left .1 .1))))
     -- Chip::standard

@@ -7,7 +7,7 @@ use mathlib.Core.Path.{_≡_, refl, ap₂, subst}
 use native.Mathlib.Omega.{arith}
 use lib.ListN.{length}
 use Rattle.parts.specs.Load.{noLoad}
-use Rattle.parts.specs.declared.transfer.Place.the-variants.{Slave}
+use Rattle.parts.specs.declared.phase.Phase.the-variants.{Slave}
 use Rattle.chip.specs.Run.{World, world, lines}
 use Rattle.recovery.specs.Pulses.{SeesStart}
 use Rattle.recovery.proofs.Posed.{posed-so}
@@ -62,7 +62,7 @@ read-heard w s select-in address n h pins =
     pins)
   where
     started : idle (w .chip) (w .array) (w .chip .counter) (w .chip .mark) (w .chip .load) false (Slave 0 0) ≡ w
-    started i = world (posed-so (w .chip) (s .idle) (s .scl) (s .line) (s .place) i) (w .array)
+    started i = world (posed-so (w .chip) (s .idle) (s .scl) (s .line) (s .phase) i) (w .array)
 
 -- For any chip that has just seen a START, at its own select: the random read is acknowledged, and the line's bits are those of the array's
 -- bytes from the address on

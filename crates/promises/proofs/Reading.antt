@@ -4,27 +4,27 @@ use mathlib.Core.Bool.{Bool, true, false, cond, not, _&&_}
 use mathlib.Core.List.{List, [], _∷_, _++_, map}
 use mathlib.Core.Path.{_≡_, refl, ap}
 use lib.ListN.{length, getD}
-use Rattle.parts.specs.Place.{bitOf, risen, placePulls}
+use Rattle.parts.specs.Phase.{bitOf, risen, phasePulls}
 use Rattle.parts.specs.Sector.{nextAddress}
-use Rattle.parts.specs.declared.sector.Load.{Load}
-use Rattle.parts.specs.declared.transfer.Place.{Place}
-use Rattle.parts.specs.declared.transfer.Place.the-variants.{Standby, AckRead, Sending, Next}
+use Rattle.parts.specs.declared.load.Load.{Load}
+use Rattle.parts.specs.declared.phase.Phase.{Phase}
+use Rattle.parts.specs.declared.phase.Phase.the-variants.{Standby, AckRead, Sending, Next}
 use Rattle.chip.specs.Chip.{pulls}
 use Rattle.chip.specs.Event.{next, nextArray, sampled, sampledArray, reacted, reactedArray}
 use Rattle.chip.specs.Run.{World, step, ran, lines}
 use Rattle.chip.specs.Transfer.{fallIn, byteBegun, byteEnded}
 use Rattle.chip.specs.Wire.{edgeOf}
-use Rattle.chip.specs.declared.model.Chip.{Chip}
+use Rattle.chip.specs.declared.chip.Chip.{Chip}
 use Rattle.promises.specs.RandomRead.{clock, clocks, pinned, bitsOf, byteTaken, bytesTaken, held, highs, bitsIn}
 use Rattle.promises.proofs.Telling.{Says, then}
 use Rattle.promises.proofs.Sending.{idle, twice}
 
--- the two places from which a byte begins: the acknowledge of a slave byte with read, and the master's low bit
+-- the two phases from which a byte begins: the acknowledge of a slave byte with read, and the master's low bit
 data Begins : Type 0 where
   read on : Begins
 
--- the place of each
-abbrev from : Begins → Place
+-- the phase of each
+abbrev from : Begins → Phase
 from read = AckRead
 from on = Next
 
@@ -45,34 +45,34 @@ risenBy (suc n) counter = risenBy n (nextAddress counter)
 
 module _ (c : Chip) (xs : List ℕ) (load : Load) where
   -- an idle chip without the mark
-  abbrev reads : ℕ → Bool → Place → World
-  reads counter line place = idle c xs counter false load line place
+  abbrev reads : ℕ → Bool → Phase → World
+  reads counter line phase = idle c xs counter false load line phase
 
   -- a clock in which the chip sends a bit
-  bit-sent : (u : World) (counter : ℕ) (place : Place) (bit : Bool)
-      → ((pins : ℕ → Bool) → ran (pinned pins (clock true)) u ≡ reads counter (not (not bit) && true) place)
+  bit-sent : (u : World) (counter : ℕ) (phase : Phase) (bit : Bool)
+      → ((pins : ℕ → Bool) → ran (pinned pins (clock true)) u ≡ reads counter (not (not bit) && true) phase)
       → ((pins : ℕ → Bool) → lines (pinned pins (clock true)) u ≡ twice ((not (not bit) && true) ∷ []))
-      → Says u (clock true) (twice (bit ∷ [])) (reads counter bit place)
-  bit-sent u counter place true ends hears = record { ends = ends; hears = hears }
-  bit-sent u counter place false ends hears = record { ends = ends; hears = hears }
+      → Says u (clock true) (twice (bit ∷ [])) (reads counter bit phase)
+  bit-sent u counter phase true ends hears = record { ends = ends; hears = hears }
+  bit-sent u counter phase false ends hears = record { ends = ends; hears = hears }
 
   -- the first clock brings bit 7 of the byte at the counter
   bit-first : (begins : Begins) (counter : ℕ)
       → Says (reads counter false (from begins)) (clock true) (twice (bitOf (getD xs counter 0) 7 ∷ [])) (reads counter (bitOf (getD xs counter 0) 7) (Sending 7 (getD xs counter 0)))
-  unfolding twice ran lines step next nextArray sampled sampledArray reacted reactedArray edgeOf pulls placePulls risen fallIn byteBegun pinned
+  unfolding twice ran lines step next nextArray sampled sampledArray reacted reactedArray edgeOf pulls phasePulls risen fallIn byteBegun pinned
   bit-first read counter = bit-sent (reads counter false AckRead) counter (Sending 7 (getD xs counter 0)) (bitOf (getD xs counter 0) 7) (λ pins. refl) (λ pins. refl)
   bit-first on counter = bit-sent (reads counter false Next) counter (Sending 7 (getD xs counter 0)) (bitOf (getD xs counter 0) 7) (λ pins. refl) (λ pins. refl)
 
   -- each of the next ones the next bit
   bit-next : (counter : ℕ) (line : Bool) (i byte : ℕ)
       → Says (reads counter line (Sending (suc i) byte)) (clock true) (twice (bitOf byte i ∷ [])) (reads counter (bitOf byte i) (Sending i byte))
-  unfolding twice ran lines step next nextArray sampled sampledArray reacted reactedArray edgeOf pulls placePulls risen fallIn pinned
+  unfolding twice ran lines step next nextArray sampled sampledArray reacted reactedArray edgeOf pulls phasePulls risen fallIn pinned
   bit-next counter line i byte = bit-sent (reads counter line (Sending (suc i) byte)) counter (Sending i byte) (bitOf byte i) (λ pins. refl) (λ pins. refl)
 
   -- in the ninth the chip lets go and the counter rises: pulled, the next byte follows; let go, standby
   ninth : (counter : ℕ) (line another : Bool) (byte : ℕ)
       → Says (reads counter line (Sending zero byte)) (clock (not another)) (twice (not another ∷ [])) (reads (nextAddress counter) (not another) (cond another Next Standby))
-  unfolding twice ran lines step next nextArray sampled sampledArray reacted reactedArray edgeOf pulls placePulls risen fallIn byteEnded pinned
+  unfolding twice ran lines step next nextArray sampled sampledArray reacted reactedArray edgeOf pulls phasePulls risen fallIn byteEnded pinned
   ninth counter line true byte = record { ends = λ pins. refl; hears = λ pins. refl }
   ninth counter line false byte = record { ends = λ pins. refl; hears = λ pins. refl }
 

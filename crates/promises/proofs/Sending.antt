@@ -8,17 +8,17 @@ use native.Mathlib.Omega.{arith}
 use borrow.Author.Tests.{eq-eqb, ne-eqb, eqb-true}
 use lib.Dec.{eqb}
 use Rattle.parts.specs.Load.{noLoad}
-use Rattle.parts.specs.Place.{weight, bitOf, risen, placePulls}
-use Rattle.parts.specs.declared.sector.Load.{Load}
-use Rattle.parts.specs.declared.transfer.Place.{Place}
-use Rattle.parts.specs.declared.transfer.Place.the-variants.{Slave, First, Second, AckWrite, AckRead, AckFirst, AckByte}
+use Rattle.parts.specs.Phase.{weight, bitOf, risen, phasePulls}
+use Rattle.parts.specs.declared.load.Load.{Load}
+use Rattle.parts.specs.declared.phase.Phase.{Phase}
+use Rattle.parts.specs.declared.phase.Phase.the-variants.{Slave, First, Second, AckWrite, AckRead, AckFirst, AckByte}
 use Rattle.parts.proofs.CondLaws.{and-left, and-right}
 use Rattle.chip.specs.Chip.{pulls}
 use Rattle.chip.specs.Event.{next, nextArray, sampled, sampledArray, reacted, reactedArray}
 use Rattle.chip.specs.Run.{World, world, step, ran, lines}
-use Rattle.chip.specs.Transfer.{placedAt, fallIn, slaveTaken, addressTaken}
+use Rattle.chip.specs.Transfer.{withTransfer, fallIn, slaveTaken, addressTaken}
 use Rattle.chip.specs.Wire.{edgeOf}
-use Rattle.chip.specs.declared.model.Chip.{Chip}
+use Rattle.chip.specs.declared.chip.Chip.{Chip}
 use Rattle.recovery.proofs.Posed.{posed}
 use Rattle.promises.specs.RandomRead.{clock, clocks, pinned, bitsOf, byteOf, byteSent, slaveByte, restart}
 use Rattle.promises.proofs.Telling.{Says, then}
@@ -57,28 +57,28 @@ data Wanted : Type 0 where
   slave first : Wanted
   second : ℕ → Wanted
 
--- the place before each
-abbrev before : Wanted → Place
+-- the phase before each
+abbrev before : Wanted → Phase
 before slave = Slave 0 0
 before first = AckWrite
 before (second high) = AckFirst high
 
--- the place with all its bits
-abbrev full : Wanted → ℕ → Place
+-- the phase with all its bits
+abbrev full : Wanted → ℕ → Phase
 full slave got = Slave 8 got
 full first got = First 8 got
 full (second high) got = Second high 8 got
 
 -- an idle chip, otherwise as it is given, with SCL high
-abbrev pub idle : Chip → List ℕ → ℕ → Bool → Load → Bool → Place → World
-idle c xs counter mark load line place = world (posed (placedAt c place counter mark load) false true line place) xs
+abbrev pub idle : Chip → List ℕ → ℕ → Bool → Load → Bool → Phase → World
+idle c xs counter mark load line phase = world (posed (withTransfer c phase counter mark load) false true line phase) xs
 
 module _ (c : Chip) (xs : List ℕ) where
   -- eight clocks bring eight bits
   bits-taken : (wanted : Wanted) (counter : ℕ) (mark : Bool) (load : Load) (b7 b6 b5 b4 b3 b2 b1 b0 : Bool)
       → Says (idle c xs counter mark load false (before wanted)) (clocks (b7 ∷ b6 ∷ b5 ∷ b4 ∷ b3 ∷ b2 ∷ b1 ∷ b0 ∷ [])) (twice (b7 ∷ b6 ∷ b5 ∷ b4 ∷ b3 ∷ b2 ∷ b1 ∷ b0 ∷ []))
       (idle c xs counter mark load b0 (full wanted (byteOf 0 (b7 ∷ b6 ∷ b5 ∷ b4 ∷ b3 ∷ b2 ∷ b1 ∷ b0 ∷ []))))
-  unfolding twice ran lines step next nextArray sampled sampledArray reacted reactedArray edgeOf pulls placePulls risen fallIn clocks pinned byteOf
+  unfolding twice ran lines step next nextArray sampled sampledArray reacted reactedArray edgeOf pulls phasePulls risen fallIn clocks pinned byteOf
   bits-taken slave counter mark load b7 b6 b5 b4 b3 b2 b1 b0 = record { ends = λ pins. refl; hears = λ pins. refl }
   bits-taken first counter mark load b7 b6 b5 b4 b3 b2 b1 b0 = record { ends = λ pins. refl; hears = λ pins. refl }
   bits-taken (second high) counter mark load b7 b6 b5 b4 b3 b2 b1 b0 = record { ends = λ pins. refl; hears = λ pins. refl }
@@ -97,26 +97,26 @@ module _ (c : Chip) (xs : List ℕ) where
   slave-acked : (reads : Bool) (counter : ℕ) (mark : Bool) (load : Load) (line : Bool) (got : ℕ)
       → eqb (got / 16) 0b1010 ≡ true → eqb (got / 2 % 8) (c .select) ≡ true → eqb (got % 2) 0 ≡ not reads
       → Says (idle c xs counter mark load line (Slave 8 got)) (clock true) (false ∷ false ∷ []) (idle c xs counter mark load false (cond reads AckRead AckWrite))
-  unfolding ran lines step next nextArray sampled sampledArray reacted reactedArray edgeOf pulls placePulls risen fallIn slaveTaken pinned
+  unfolding ran lines step next nextArray sampled sampledArray reacted reactedArray edgeOf pulls phasePulls risen fallIn slaveTaken pinned
   slave-acked true counter mark load line got p q r = record { ends = λ pins. rw (p, q, r); hears = λ pins. rw (p, q, r) }
   slave-acked false counter mark load line got p q r = record { ends = λ pins. rw (p, q, r); hears = λ pins. rw (p, q, r) }
 
   -- and so is the first address byte
   first-acked : (counter : ℕ) (mark : Bool) (load : Load) (line : Bool) (got : ℕ)
       → Says (idle c xs counter mark load line (First 8 got)) (clock true) (false ∷ false ∷ []) (idle c xs counter mark load false (AckFirst got))
-  unfolding ran lines step next nextArray sampled sampledArray reacted reactedArray edgeOf pulls placePulls risen fallIn pinned
+  unfolding ran lines step next nextArray sampled sampledArray reacted reactedArray edgeOf pulls phasePulls risen fallIn pinned
   first-acked counter mark load line got = record { ends = λ pins. refl; hears = λ pins. refl }
 
   -- and the second, which clears the mark and sets the counter where the address is not FFFFh
   second-acked : (counter : ℕ) (mark : Bool) (load : Load) (line : Bool) (high got : ℕ) → eqb (high * 256 + got) 0xffff ≡ false
       → Says (idle c xs counter mark load line (Second high 8 got)) (clock true) (false ∷ false ∷ []) (idle c xs ((high * 256 + got) % 0x4000) false load false AckByte)
-  unfolding ran lines step next nextArray sampled sampledArray reacted reactedArray edgeOf pulls placePulls risen fallIn addressTaken pinned
+  unfolding ran lines step next nextArray sampled sampledArray reacted reactedArray edgeOf pulls phasePulls risen fallIn addressTaken pinned
   second-acked counter mark load line high got p = record { ends = λ pins. rw p; hears = λ pins. rw p }
 
   -- 2, 3, 1 ends the acknowledge and makes a START
   pub restarted : (counter : ℕ) (mark : Bool) (load : Load)
       → Says (idle c xs counter mark load false AckByte) restart (true ∷ true ∷ false ∷ []) (idle c xs counter mark noLoad false (Slave 0 0))
-  unfolding ran lines step next nextArray sampled sampledArray reacted reactedArray edgeOf pulls placePulls risen fallIn pinned
+  unfolding ran lines step next nextArray sampled sampledArray reacted reactedArray edgeOf pulls phasePulls risen fallIn pinned
   restarted counter mark load = record { ends = λ pins. refl; hears = λ pins. refl }
 
   -- the slave byte with the chip's select, written or read

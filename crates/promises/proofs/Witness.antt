@@ -9,7 +9,7 @@ use lib.Dec.{leb·zero}
 use lib.ListN.{length, length-set, length-replicate, replicate, set}
 use Rattle.parts.specs.Load.{loaded, storedTo}
 use Rattle.parts.specs.Locks.{firstLocked}
-use Rattle.parts.specs.Place.{risen, placePulls}
+use Rattle.parts.specs.Phase.{risen, phasePulls}
 use Rattle.parts.specs.Register.{written, latchWritten, lockWritten}
 use Rattle.chip.specs.Chip.{pulls}
 use Rattle.chip.specs.Event.{next, nextArray, sampled, sampledArray, reacted, reactedArray}
@@ -54,7 +54,7 @@ record Computed : Type 0 where
 
 -- all of it at once
 computed : Computed
-unfolding ran lines step next nextArray sampled sampledArray reacted reactedArray edgeOf pulls placePulls risen fallIn slaveTaken addressTaken arrayData registerData byteBegun byteEnded stopEffect rightEffect arrayEffect rightly effectMoved effectArray firstLocked written latchWritten lockWritten loaded storedTo pinned clocks byteSent byteTaken bytesTaken randomRead highs bitsIn byteOf held every pinHigh pulse pulsed recovered registerSet attack cutRead bench lows
+unfolding ran lines step next nextArray sampled sampledArray reacted reactedArray edgeOf pulls phasePulls risen fallIn slaveTaken addressTaken arrayData registerData byteBegun byteEnded stopEffect rightEffect arrayEffect rightly effectMoved effectArray firstLocked written latchWritten lockWritten loaded storedTo pinned clocks byteSent byteTaken bytesTaken randomRead highs bitsIn byteOf held every pinHigh pulse pulsed recovered registerSet attack cutRead bench lows
 computed =
     record {
       ppen = refl;

@@ -23,7 +23,7 @@ use mathlib.Core.Bool.{Bool, true, false, not}
 use mathlib.Core.List.{List, [], _∷_, _++_, map}
 use mathlib.Core.Path.{_≡_}
 use lib.ListN.{getD, take, drop}
-use Rattle.parts.specs.Place.{weight, received, bitOf}
+use Rattle.parts.specs.Phase.{weight, received, bitOf}
 use Rattle.parts.specs.Sector.{nextAddress}
 use Rattle.chip.specs.declared.wire.Event.{Event}
 use Rattle.recovery.specs.Recovery.{sample}

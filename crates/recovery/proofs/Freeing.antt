@@ -7,19 +7,19 @@ use mathlib.Core.List.{List}
 use native.Mathlib.Omega.{arith}
 use borrow.Author.Tests.{leb-true}
 use lib.Dec.{ltb}
-use Rattle.parts.specs.Place.{risen, received, placePulls, placeFits}
+use Rattle.parts.specs.Phase.{risen, received, phasePulls, phaseFits}
 use Rattle.parts.specs.Sector.{nextAddress}
-use Rattle.parts.specs.declared.sector.Load.{Load}
-use Rattle.parts.specs.declared.transfer.Place.{Place}
-use Rattle.parts.specs.declared.transfer.Place.the-variants.{Standby, Slave, First, Second, Data, AckWrite, AckRead, AckFirst, AckByte, Sending, Waiting, Next}
+use Rattle.parts.specs.declared.load.Load.{Load}
+use Rattle.parts.specs.declared.phase.Phase.{Phase}
+use Rattle.parts.specs.declared.phase.Phase.the-variants.{Standby, Slave, First, Second, Data, AckWrite, AckRead, AckFirst, AckByte, Sending, Waiting, Next}
 use Rattle.parts.proofs.CondLaws.{cond-by}
 use Rattle.chip.specs.Chip.{pulls}
 use Rattle.chip.specs.Event.{next, nextArray, sampled, sampledArray, reacted, reactedArray, withLevels}
 use Rattle.chip.specs.Run.{World, world, step}
-use Rattle.chip.specs.Transfer.{placedAt, fallIn, byteBegun, byteEnded, nextByte}
+use Rattle.chip.specs.Transfer.{withTransfer, fallIn, byteBegun, byteEnded, nextByte}
 use Rattle.chip.specs.Wire.{lineOf, edgeOf}
-use Rattle.chip.specs.declared.model.Chip.{Chip}
-use Rattle.chip.specs.declared.model.Moved.{Moved}
+use Rattle.chip.specs.declared.chip.Chip.{Chip}
+use Rattle.chip.specs.declared.chip.Moved.{Moved}
 use Rattle.chip.proofs.FitLaws.{Fits}
 use Rattle.chip.proofs.StepLaws.{fall-by}
 use Rattle.recovery.specs.Pulses.{afterPulses}
@@ -27,13 +27,13 @@ use Rattle.recovery.specs.Recovery.{sample, pulse}
 use Rattle.recovery.proofs.Keeping.{worldWith}
 use Rattle.recovery.proofs.Posed.{posed}
 
--- a place in which the chip does not pull
-abbrev Loose : Place → Type 0
-Loose p = placePulls p ≡ false
+-- a phase in which the chip does not pull
+abbrev Loose : Phase → Type 0
+Loose p = phasePulls p ≡ false
 
 -- a clock rise changes no pull
-rise-pulls : (p : Place) (bit : Bool) → placePulls (risen p bit) ≡ placePulls p
-unfolding placePulls risen
+rise-pulls : (p : Phase) (bit : Bool) → phasePulls (risen p bit) ≡ phasePulls p
+unfolding phasePulls risen
 rise-pulls Standby bit = refl
 rise-pulls (Slave bits got) bit = cond-by Loose (ltb bits 8) (Slave (bits + 1) (received got bit)) (Slave bits got) (λ e. refl) (λ e. refl)
 rise-pulls (First bits got) bit = cond-by Loose (ltb bits 8) (First (bits + 1) (received got bit)) (First bits got) (λ e. refl) (λ e. refl)
@@ -47,9 +47,9 @@ rise-pulls (Sending i byte) bit = refl
 rise-pulls Waiting bit = cond-by Loose bit Standby Next (λ e. refl) (λ e. refl)
 rise-pulls Next bit = refl
 
--- an idle chip at a place, with SCL high or low
-abbrev idleAt : Chip → Bool → Place → Chip
-idleAt c scl place = posed c false scl (c .line) place
+-- an idle chip at a phase, with SCL high or low
+abbrev idleAt : Chip → Bool → Phase → Chip
+idleAt c scl phase = posed c false scl (c .line) phase
 
 -- the world after the low half of a pulse that left this chip
 abbrev lowered : Chip → List ℕ → World
@@ -77,41 +77,41 @@ loose true e = sym e
 loose false e = refl
 
 -- at once, where the chip pulls no more
-let-go : (m : ℕ) (pin : Bool) (c : Chip) (xs : List ℕ) (p : Place) → Loose p → Half m pin (lowered (idleAt c (c .scl) p) xs)
+let-go : (m : ℕ) (pin : Bool) (c : Chip) (xs : List ℕ) (p : Phase) → Loose p → Half m pin (lowered (idleAt c (c .scl) p) xs)
 unfolding afterPulses step next sampled reacted edgeOf pulls
-let-go m pin c xs p h = (0, omega arith, loose (placePulls (risen p _)) (rise-pulls p _ ∙ h))
+let-go m pin c xs p h = (0, omega arith, loose (phasePulls (risen p _)) (rise-pulls p _ ∙ h))
 
 -- SCL high: the next pulse begins with a fall
-abbrev atHigh : Chip → List ℕ → Place → World
+abbrev atHigh : Chip → List ℕ → Phase → World
 atHigh c xs p = world (idleAt c true p) xs
 
 -- and is decided by what the fall leaves
-falling : (m : ℕ) (pin : Bool) (c : Chip) (xs : List ℕ) (p : Place) → Half m pin (lowered (fallIn p (idleAt c true p) xs .chip) xs) → Soon m pin (atHigh c xs p)
+falling : (m : ℕ) (pin : Bool) (c : Chip) (xs : List ℕ) (p : Phase) → Half m pin (lowered (fallIn p (idleAt c true p) xs .chip) xs) → Soon m pin (atHigh c xs p)
 unfolding afterPulses pulse step next nextArray sampled sampledArray reacted reactedArray edgeOf
 falling m pin c xs p h = h
 
 -- bit i is gone after i + 1 falls
 sends : (i : ℕ) (pin : Bool) (c : Chip) (xs : List ℕ) (byte : ℕ) → Soon i pin (atHigh c xs (Sending i byte))
-unfolding fallIn byteEnded placePulls step next nextArray sampled sampledArray reacted reactedArray edgeOf risen
+unfolding fallIn byteEnded phasePulls step next nextArray sampled sampledArray reacted reactedArray edgeOf risen
 sends zero pin c xs byte =
     let d : Chip = idleAt c true (Sending zero byte) in
     falling 0 pin c xs (Sending zero byte)
     (cond-by (λ (d : Chip). Half 0 pin (lowered d xs)) (c .mark)
-    (placedAt d Standby 0x0000 false (c .load)) (placedAt d Waiting (nextAddress (c .counter)) (c .mark) (c .load))
-    (λ e. let-go 0 pin (placedAt d Standby 0x0000 false (c .load)) xs Standby refl)
-    (λ e. let-go 0 pin (placedAt d Waiting (nextAddress (c .counter)) (c .mark) (c .load)) xs Waiting refl))
+    (withTransfer d Standby 0x0000 false (c .load)) (withTransfer d Waiting (nextAddress (c .counter)) (c .mark) (c .load))
+    (λ e. let-go 0 pin (withTransfer d Standby 0x0000 false (c .load)) xs Standby refl)
+    (λ e. let-go 0 pin (withTransfer d Waiting (nextAddress (c .counter)) (c .mark) (c .load)) xs Waiting refl))
 sends (suc i) pin c xs byte =
     let v : World = lowered (idleAt c true (Sending i byte)) xs in
     falling (suc i) pin c xs (Sending (suc i) byte)
     (up i pin v (sends i pin (raised pin v .chip) (raised pin v .array) byte))
 
 -- an acknowledge is gone after one fall
-acks : (m : ℕ) (pin : Bool) (c : Chip) (xs : List ℕ) (p after : Place) → Loose after
+acks : (m : ℕ) (pin : Bool) (c : Chip) (xs : List ℕ) (p after : Phase) → Loose after
     → fallIn p (idleAt c true p) xs .chip ≡ idleAt c true after → Soon m pin (atHigh c xs p)
 acks m pin c xs p after h e = falling m pin c xs p (rw e (let-go m pin (idleAt c true after) xs after h))
 
 -- but where it turns to reading a byte follows, and so it does after the master's low bit
-begins : (pin : Bool) (c : Chip) (xs : List ℕ) (p : Place) (byte : ℕ) → fallIn p (idleAt c true p) xs .chip ≡ idleAt c true (Sending 7 byte) → Soon 8 pin (atHigh c xs p)
+begins : (pin : Bool) (c : Chip) (xs : List ℕ) (p : Phase) (byte : ℕ) → fallIn p (idleAt c true p) xs .chip ≡ idleAt c true (Sending 7 byte) → Soon 8 pin (atHigh c xs p)
 unfolding step next nextArray sampled sampledArray reacted reactedArray edgeOf risen
 begins pin c xs p byte e =
     let v : World = lowered (idleAt c true (Sending 7 byte)) xs in
@@ -121,9 +121,9 @@ begins pin c xs p byte e =
 more : (m n : ℕ) (pin : Bool) (v : World) → m ≤ n → Half m pin v → Half n pin v
 more m n pin v h (k, l, e) = (k, omega arith, e)
 
--- SCL low, at any place in range
-rising : (pin : Bool) (c : Chip) (xs : List ℕ) (p : Place) → placeFits p ≡ true → Half 9 pin (lowered (idleAt c (c .scl) p) xs)
-unfolding placeFits placePulls fallIn byteBegun step next nextArray sampled sampledArray reacted reactedArray edgeOf risen
+-- SCL low, at any phase in range
+rising : (pin : Bool) (c : Chip) (xs : List ℕ) (p : Phase) → phaseFits p ≡ true → Half 9 pin (lowered (idleAt c (c .scl) p) xs)
+unfolding phaseFits phasePulls fallIn byteBegun step next nextArray sampled sampledArray reacted reactedArray edgeOf risen
 rising pin c xs Standby h = let-go 9 pin c xs Standby refl
 rising pin c xs (Slave bits got) h = let-go 9 pin c xs (Slave bits got) refl
 rising pin c xs (First bits got) h = let-go 9 pin c xs (First bits got) refl
@@ -148,24 +148,24 @@ rising pin c xs Waiting h = let-go 9 pin c xs Waiting refl
 rising pin c xs Next h = let-go 9 pin c xs Next refl
 
 -- a chip that a fall has moved
-landed : (pin : Bool) (c : Chip) (xs : List ℕ) (p : Place) (counter : ℕ) (mark : Bool) (load : Load) → placeFits p ≡ true
-    → Half 9 pin (lowered (placedAt (idleAt c true (c .place)) p counter mark load) xs)
-landed pin c xs p counter mark load h = rising pin (placedAt (idleAt c true (c .place)) p counter mark load) xs p h
+landed : (pin : Bool) (c : Chip) (xs : List ℕ) (p : Phase) (counter : ℕ) (mark : Bool) (load : Load) → phaseFits p ≡ true
+    → Half 9 pin (lowered (withTransfer (idleAt c true (c .phase)) p counter mark load) xs)
+landed pin c xs p counter mark load h = rising pin (withTransfer (idleAt c true (c .phase)) p counter mark load) xs p h
 
--- SCL high, at any place in range
-falls : (pin : Bool) (c : Chip) (xs : List ℕ) → Fits c → Soon 9 pin (atHigh c xs (c .place))
+-- SCL high, at any phase in range
+falls : (pin : Bool) (c : Chip) (xs : List ℕ) → Fits c → Soon 9 pin (atHigh c xs (c .phase))
 falls pin c xs f =
-    falling 9 pin c xs (c .place)
-    (fall-by (λ (m : Moved). Half 9 pin (lowered (m .chip) xs)) (idleAt c true (c .place))
-    (λ place counter mark load note fits. landed pin c xs place counter mark load (fits f .place))
-    (c .place) xs refl)
+    falling 9 pin c xs (c .phase)
+    (fall-by (λ (m : Moved). Half 9 pin (lowered (m .chip) xs)) (idleAt c true (c .phase))
+    (λ phase counter mark load note fits. landed pin c xs phase counter mark load (fits f .phase))
+    (c .phase) xs refl)
 
 -- a chip by busy and SCL; a busy one does not pull
 by-levels : (pin : Bool) (w : World) (busy scl : Bool) → Fits (w .chip) → Soon 9 pin (worldWith w busy scl (w .chip .line))
 unfolding afterPulses pulse step next nextArray sampled sampledArray reacted reactedArray edgeOf pulls
 by-levels pin w true scl f = (0, omega arith, refl)
 by-levels pin w false true f = falls pin (w .chip) (w .array) f
-by-levels pin w false false f = rising pin (w .chip) (w .array) (w .chip .place) (f .place)
+by-levels pin w false false f = rising pin (w .chip) (w .array) (w .chip .phase) (f .phase)
 
 -- any chip in range
 pub frees : (pin : Bool) (w : World) → Fits (w .chip) → Soon 9 pin w

@@ -3,13 +3,13 @@ use Prim.Native.Nat.{ℕ}
 use mathlib.Core.Bool.{Bool, true, false, cond}
 use mathlib.Core.Path.{_≡_, refl, _∙_}
 use mathlib.Core.List.{List}
-use Rattle.parts.specs.declared.bits.Register.{Register}
+use Rattle.parts.specs.declared.register.Register.{Register}
 use Rattle.chip.specs.Chip.{pulls}
 use Rattle.chip.specs.Event.{next, nextArray, sampled, sampledArray, reacted, reactedArray}
 use Rattle.chip.specs.Run.{World, world, step}
 use Rattle.chip.specs.Transfer.{fallIn}
 use Rattle.chip.specs.Wire.{lineOf, edgeOf}
-use Rattle.chip.specs.declared.model.Moved.{Moved}
+use Rattle.chip.specs.declared.chip.Moved.{Moved}
 use Rattle.chip.specs.declared.wire.Edge.the-variants.{Quiet, Start}
 use Rattle.chip.proofs.StepLaws.{fall-by}
 use Rattle.recovery.specs.Recovery.{sample, pulse}
@@ -44,12 +44,12 @@ and-then u v w k l =
 
 -- the world with busy, SCL and line as given
 abbrev pub worldWith : World → Bool → Bool → Bool → World
-worldWith w busy scl line = world (posed (w .chip) busy scl line (w .chip .place)) (w .array)
+worldWith w busy scl line = world (posed (w .chip) busy scl line (w .chip .phase)) (w .array)
 
 -- a fall moves a chip in its transfer, and nothing more
-fall-keeps : (w : World) → Keeps w (world (fallIn (w .chip .place) (w .chip) (w .array) .chip) (w .array))
+fall-keeps : (w : World) → Keeps w (world (fallIn (w .chip .phase) (w .chip) (w .array) .chip) (w .array))
 fall-keeps w =
-    fall-by (λ (m : Moved). Keeps w (world (m .chip) (w .array))) (w .chip) (λ place counter mark load note fits. same w) (w .chip .place) (w .array) refl
+    fall-by (λ (m : Moved). Keeps w (world (m .chip) (w .array))) (w .chip) (λ phase counter mark load note fits. same w) (w .chip .phase) (w .array) refl
 
 -- the first half of a pulse is a fall or nothing
 low-keeps : (pin : Bool) (w : World) (busy scl : Bool)

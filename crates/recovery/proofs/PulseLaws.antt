@@ -8,7 +8,7 @@ use lib.ListN.{length}
 use Rattle.parts.proofs.CondLaws.{cond-by}
 use Rattle.chip.specs.Event.{refusal}
 use Rattle.chip.specs.Run.{World, world, step, ran}
-use Rattle.chip.specs.declared.model.Chip.{Chip}
+use Rattle.chip.specs.declared.chip.Chip.{Chip}
 use Rattle.chip.proofs.RunLaws.{ran-taken}
 use Rattle.trace.specs.Bytes.{eventOf, allEvents}
 use Rattle.trace.specs.Trace.{after, ranOf, runArray}

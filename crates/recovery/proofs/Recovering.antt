@@ -3,7 +3,7 @@
 use Prim.Native.Nat.{ℕ, zero, suc}
 use mathlib.Core.Bool.{Bool, true, false}
 use mathlib.Core.Path.{_≡_, refl, _∙_, ap, subst}
-use Rattle.parts.specs.Place.{placePulls}
+use Rattle.parts.specs.Phase.{phasePulls}
 use Rattle.chip.specs.Chip.{chipFits, pulls}
 use Rattle.chip.specs.Event.{next, nextArray, sampled, sampledArray, reacted, withLevels}
 use Rattle.chip.specs.Run.{World, world, step}
@@ -76,9 +76,9 @@ busy-recovery pin w b =
 
 -- an idle chip with SCL and the line high sees the START
 start-seen : (pin : Bool) (w : World) → SeesStart (step (sample true false pin) (worldWith w false true true) .chip)
-unfolding step next sampled reacted pulls placePulls
+unfolding step next sampled reacted pulls phasePulls
 start-seen pin w =
-    rw (start-edge true (pulls (worldWith w false true true .chip))) (record { idle = refl; place = refl; load = refl; scl = refl; line = refl })
+    rw (start-edge true (pulls (worldWith w false true true .chip))) (record { idle = refl; phase = refl; load = refl; scl = refl; line = refl })
 
 -- recovery leads an idle chip in range there
 pub recovery-starts : (pin : Bool) (w : World) → chipFits (w .chip) ≡ true → w .chip .busy ≡ false → SeesStart (recovered pin w .chip)

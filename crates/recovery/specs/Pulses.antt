@@ -10,9 +10,9 @@ use Prim.Native.Nat.{ℕ, zero, suc, _≤_, _<_}
 use mathlib.Core.Bool.{Bool, true, false}
 use mathlib.Core.Path.{_≡_}
 use Rattle.parts.specs.Load.{noLoad}
-use Rattle.parts.specs.declared.transfer.Place.the-variants.{Slave}
+use Rattle.parts.specs.declared.phase.Phase.the-variants.{Slave}
 use Rattle.chip.specs.Run.{World}
-use Rattle.chip.specs.declared.model.Chip.{Chip}
+use Rattle.chip.specs.declared.chip.Chip.{Chip}
 use Rattle.recovery.specs.Recovery.{pulse}
 
 -- one after the other
@@ -28,7 +28,7 @@ pub record FirstHigh (pin : Bool) (w : World) (number : ℕ) (left : World) : Ty
   pub high : left .chip .line ≡ true
   pub low-before : (n : ℕ) → 1 ≤ n → n < number → afterPulses n pin w .chip .line ≡ false
 
--- counter, mark, load, place and levels may differ
+-- counter, mark, load, phase and levels may differ
 pub record Unchanged (before after : World) : Type 0 where
   pub array : after .array ≡ before .array
   pub register : after .chip .register ≡ before .chip .register
@@ -38,7 +38,7 @@ pub record Unchanged (before after : World) : Type 0 where
 -- no load, a slave byte to come, the clock still high and the line pulled
 pub record SeesStart (c : Chip) : Type 0 where
   pub idle : c .busy ≡ false
-  pub place : c .place ≡ Slave 0 0
+  pub phase : c .phase ≡ Slave 0 0
   pub load : c .load ≡ noLoad
   pub scl : c .scl ≡ true
   pub line : c .line ≡ false

@@ -15,7 +15,7 @@ use mathlib.Core.List.{List, [], _∷_}
 use lib.Dec.{eqb}
 use Rattle.chip.specs.Event.{refusal}
 use Rattle.chip.specs.Run.{World, world, step}
-use Rattle.chip.specs.declared.model.Chip.{Chip}
+use Rattle.chip.specs.declared.chip.Chip.{Chip}
 use Rattle.chip.specs.declared.wire.Event.{Event}
 use Rattle.chip.specs.declared.wire.Event.the-variants.{Sample}
 use Rattle.recovery.specs.declared.Recovered.{Recovered}

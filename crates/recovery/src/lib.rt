@@ -4,7 +4,7 @@ ghost use mathlib.Core.Bool.{true, false};
 ghost use Rattle.chip.specs.Event.{refusal};
 ghost use Rattle.recovery.specs.Recovery.{sample, pulseBytes, startBytes, pulse, freed, recoveryAnswer, recoveryArray};
 ghost use Rattle.chip.specs.Run.{world, step};
-use chip::model::Chip;
+use chip::chip::Chip;
 use trace::run;
 
 // What recovery answers: the refusal, the chip, and the number of the first pulse after which the line was high.

@@ -12,8 +12,8 @@ use Rattle.chip.proofs.FitLaws.{new-fits}
 use Rattle.chip.specs.Chip.{standardChip}
 use Rattle.chip.specs.Event.{refusal}
 use Rattle.chip.specs.Run.{World, world, step}
-use Rattle.chip.specs.declared.model.Chip.{Chip}
-use Rattle.parts.specs.Place.{weight}
+use Rattle.chip.specs.declared.chip.Chip.{Chip}
+use Rattle.parts.specs.Phase.{weight}
 use Rattle.trace.specs.Bytes.{eventOf, allEvents, answerByte}
 use Rattle.trace.specs.Trace.{answersOf, runRefusal, runAnswers, ranOf, unless}
 use Rattle.trace.specs.declared.Ran.{Ran}

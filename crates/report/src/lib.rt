@@ -7,7 +7,7 @@ ghost use lib.ListN.{length, take, drop};
 ghost use Rattle.report.specs.Text.{put, glyph, numeral, eventLine, linesFrom, refusedText};
 ghost use Rattle.io.specs.Counts.{Counts};
 ghost use Rattle.report.specs.Report.{blank, reportOf, answerText};
-use chip::model::Chip;
+use chip::chip::Chip;
 
 // The last decimal digit of a number.
 fn glyph(n: usize) -> u8

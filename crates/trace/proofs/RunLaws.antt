@@ -11,7 +11,7 @@ use lib.ListN.{length, getD, set, take, drop, length-set, drop-of-length-le, tak
 use lib.Seq.{drop-cons, drop-drop, drop-set-lt, take-suc-set}
 use Rattle.chip.specs.Event.{next, nextArray, refusal}
 use Rattle.chip.specs.Run.{World, world, step, noteOf, ran}
-use Rattle.chip.specs.declared.model.Chip.{Chip}
+use Rattle.chip.specs.declared.chip.Chip.{Chip}
 use Rattle.trace.specs.Bytes.{eventOf, allEvents, answerByte}
 use Rattle.trace.specs.Trace.{after, answersOf, runRefusal, unless, ranOf, runArray}
 

@@ -9,7 +9,7 @@ use Prim.Native.Nat.{ℕ, _+_, _*_, _%_}
 use mathlib.Core.Bool.{Bool, true, cond, _&&_}
 use mathlib.Core.List.{List, [], _∷_}
 use lib.Dec.{eqb, leb}
-use Rattle.parts.specs.Place.{weight, bitOf}
+use Rattle.parts.specs.Phase.{weight, bitOf}
 use Rattle.chip.specs.Run.{World, step, noteOf}
 use Rattle.chip.specs.declared.wire.Event.{Event}
 use Rattle.chip.specs.declared.wire.Event.the-variants.{Sample, ProgramDone, PowerUp}

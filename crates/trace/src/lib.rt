@@ -6,10 +6,10 @@ ghost use lib.ListN.{length, drop};
 ghost use Rattle.chip.specs.Run.{world};
 ghost use Rattle.trace.specs.Bytes.{eventOf, allEvents, answerByte};
 ghost use Rattle.trace.specs.Trace.{after, answersOf, runRefusal, runArray, runAnswers, ranOf};
-use chip::model::Chip;
+use chip::chip::Chip;
 use chip::wire::Event;
 use chip::wire::Sample;
-use parts::transfer::bit_of;
+use parts::phase::bit_of;
 
 // What running a trace answers.
 pub struct Ran {

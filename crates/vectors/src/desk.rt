@@ -1,8 +1,8 @@
 // The desk: a chip, the protect pin, and what the order that is being read has so far. Events go to the chip, or are recorded on a tape.
 use crate::say;
-use chip::model::Chip;
-use parts::transfer::bit_of;
-use parts::transfer::with_bit;
+use chip::chip::Chip;
+use parts::phase::bit_of;
+use parts::phase::with_bit;
 
 pub struct Desk {
     pub chip: Chip,

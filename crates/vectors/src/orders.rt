@@ -3,9 +3,9 @@ use crate::desk;
 use crate::desk::Desk;
 use crate::say;
 use crate::tape;
-use chip::model::Chip;
-use parts::sector::Load;
-use parts::transfer::Place;
+use chip::chip::Chip;
+use parts::load::Load;
+use parts::phase::Phase;
 
 // The register byte, the counter, and `m` for the mark, `b` for busy.
 fn show(chip: Chip) {
@@ -20,24 +20,24 @@ fn show(chip: Chip) {
 
 // The chip with its bits received or its bit being sent at a number.
 fn placed(chip: Chip, field: u8, n: u8) -> Chip {
-    let place = match field {
-        4 => Place::Slave { bits: n, got: 0 },
-        5 => Place::First { bits: n, got: 0 },
-        6 => Place::Second {
+    let phase = match field {
+        4 => Phase::Slave { bits: n, got: 0 },
+        5 => Phase::First { bits: n, got: 0 },
+        6 => Phase::Second {
             high: 0,
             bits: n,
             got: 0,
         },
-        7 => Place::Data { bits: n, got: 0 },
-        _ => Place::Sending { bit: n, byte: 0 },
+        7 => Phase::Data { bits: n, got: 0 },
+        _ => Phase::Sending { bit: n, byte: 0 },
     };
     Chip {
-        place: place,
+        phase: phase,
         ..chip
     }
 }
 
-// The chip with a field at a number: 0 part, 1 select, 2 BL, 3 counter (times 256), 4 to 8 the place, 9 count, 10 PPEN, 11 PEL.
+// The chip with a field at a number: 0 part, 1 select, 2 BL, 3 counter (times 256), 4 to 8 the phase, 9 count, 10 PPEN, 11 PEL.
 fn altered(chip: Chip, field: u8, n: u8) -> Chip {
     let mut c = chip;
     match field {

@@ -23,4 +23,4 @@ head-bytes-spec =
     (λ c. search needs)
     (λ c. search needs)
     (λ c. search needs)
-    (λ c. simp (c .flag-byte7 .ensures, c .before .flag-byte6 .ensures, c .before .before .flag-byte5 .ensures, c .before .before .before .flag-byte4 .ensures, c .before .before .before .before .before .before .flag-byte3 .ensures, c .before .before .before .before .before .before .before .flag-byte2 .ensures, c .before .before .before .before .before .before .before .before .flag-byte .ensures, c .before .before .before .before .before .before .before .before .before .place-bytes .ensures)))
+    (λ c. simp (c .flag-byte7 .ensures, c .before .flag-byte6 .ensures, c .before .before .flag-byte5 .ensures, c .before .before .before .flag-byte4 .ensures, c .before .before .before .before .before .before .flag-byte3 .ensures, c .before .before .before .before .before .before .before .flag-byte2 .ensures, c .before .before .before .before .before .before .before .before .flag-byte .ensures, c .before .before .before .before .before .before .before .before .before .phase-bytes .ensures)))

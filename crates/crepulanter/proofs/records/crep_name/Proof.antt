@@ -6,8 +6,8 @@ use Rattle.crepulanter.proofs.records.crep_name.Tie as tie
 
 returns : tie.Need-returns
 returns c =
-    let place = c .before .shown-place .ensures in
-    record { returned = refl; first = simp place; counted = simp place; within = simp (c .flag-byte .ensures, place) }
+    let phase = c .before .shown-place .ensures in
+    record { returned = refl; first = simp phase; counted = simp phase; within = simp (c .flag-byte .ensures, phase) }
 
 pub crep-name-spec : {M : Type 1} → statement M
 crep-name-spec = tie.close (tie.spec (λ c κs. search needs) (λ c κs. search needs) returns)

@@ -30,4 +30,4 @@ unpack-spec =
     (λ c. search needs)
     (λ c. search needs)
     (λ c. search needs)
-    (λ c. simp (c .before .before .before .before .before .before .before .before .before .before .before .counter-of .ensures, c .before .before .before .before .before .before .before .before .before .before .before .before .before .before .load-of .ensures, c .before .before .before .before .before .before .before .before .before .before .before .before .before .before .before .places-of .ensures, c .before .before .before .before .before .before .before .before .before .before .before .before .before .before .before .before .place-of .ensures)))
+    (λ c. simp (c .before .before .before .before .before .before .before .before .before .before .before .counter-of .ensures, c .before .before .before .before .before .before .before .before .before .before .before .before .before .before .load-of .ensures, c .before .before .before .before .before .before .before .before .before .before .before .before .before .before .before .places-of .ensures, c .before .before .before .before .before .before .before .before .before .before .before .before .before .before .before .before .phase-of .ensures)))

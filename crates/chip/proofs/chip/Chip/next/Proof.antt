@@ -1,0 +1,22 @@
+-- `Chip::next` meets its contract. Assumes nothing.
+use borrow.Author.Needs.{needs}
+use Rattle.chip.specs.Event.{next, nextArray}
+use Rattle.chip.proofs.chip.Chip.next.Statement.{statement}
+use Rattle.chip.proofs.chip.Chip.next.Tie as tie
+
+pub next-spec : {M : Type 1} → statement M
+unfolding next nextArray
+next-spec =
+    tie.close
+    (tie.spec
+    (λ c. search needs)
+    (λ c κs. search needs)
+    (λ c. search needs)
+    (λ c κs. search needs)
+    (λ c. search needs)
+    (λ c κs. search needs)
+    (λ c κs. search needs)
+    (λ c. search needs)
+    (λ c. (simp (c .before .before .sample .ensures .0, c .before .before .before .before .before .event .given .1), simp (c .before .before .sample .ensures .1, c .before .before .before .before .before .event .given .1)))
+    (λ c. (simp (c .quietly .ensures, c .before .before .before .enum-told .given .1), simp (c .before .before .before .enum-told .given .1)))
+    (λ c. (simp (c .quietly2 .ensures, c .before .at-power-up .ensures, c .before .before .enum-told2 .given .1), simp (c .before .before .enum-told2 .given .1))))

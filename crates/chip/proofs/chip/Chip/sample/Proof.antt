@@ -1,0 +1,37 @@
+-- `Chip::sample` meets its contract. Assumes nothing.
+use borrow.Author.Needs.{needs}
+use Rattle.chip.specs.Event.{sampled, sampledArray}
+use Rattle.chip.proofs.chip.Chip.sample.Statement.{statement}
+use Rattle.chip.proofs.chip.Chip.sample.Tie as tie
+
+pub sample-spec : {M : Type 1} → statement M
+unfolding sampled sampledArray
+sample-spec =
+    tie.close
+    (tie.spec
+    (λ c κs. search needs)
+    (λ c κs. search needs)
+    (λ c. (simp (c .settled .ensures, c .before .quietly .ensures, c .before .before .if1 .taken), simp (c .before .before .if1 .taken)))
+    (λ c κs. search needs)
+    (λ c κs. search needs)
+    (λ c κs. search needs)
+    (λ c κs. search needs)
+    (λ c κs. search needs)
+    (λ c. search needs)
+    (λ c. (
+      rw (
+        c .settled2 .ensures,
+        c .before .before .before .react .ensures .0,
+        c .before .before .before .before .before .edge-of .ensures,
+        c .before .before .before .before .before .before .line-of .ensures,
+        c .before .before .before .before .before .before .before .pulls .ensures,
+        c .before .before .before .before .before .before .before .before .if1 .left,
+      ),
+      rw (
+        c .before .before .before .react .ensures .1,
+        c .before .before .before .before .before .edge-of .ensures,
+        c .before .before .before .before .before .before .line-of .ensures,
+        c .before .before .before .before .before .before .before .pulls .ensures,
+        c .before .before .before .before .before .before .before .before .if1 .left,
+      ),
+    )))

@@ -1,0 +1,16 @@
+-- `Chip::take_address` meets its contract. Assumes nothing.
+use borrow.Author.Needs.{needs}
+use borrow.Author.Tests.{eq-eqb, ne-eqb}
+use Rattle.chip.specs.Transfer.{addressTaken}
+use Rattle.chip.proofs.chip.Chip.take_address.Statement.{statement}
+use Rattle.chip.proofs.chip.Chip.take_address.Tie as tie
+
+pub take-address-spec : {M : Type 1} → statement M
+unfolding addressTaken
+take-address-spec =
+    tie.close
+    (tie.spec
+    (λ c. search needs)
+    (λ c. search needs)
+    (λ c. simp (eq-eqb _ _ (c .before .before .if1 .taken)))
+    (λ c. simp (ne-eqb _ _ (c .before .before .if1 .left))))

@@ -1,0 +1,165 @@
+// The chip: what it carries, how it is made, and whether it pulls. Every method answers for every chip, in range or not.
+ghost use mathlib.Core.Path.{_≡_};
+ghost use Rattle.chip.specs.Chip.{chipFits, pulls, atPowerUp, standardChip, made};
+ghost use Rattle.chip.specs.Transfer.{atPhase, emptyAt, dropNote, quiet};
+use parts::load::Load;
+use parts::phase::Phase;
+use parts::register::Register;
+use parts::register::Written;
+
+pub struct Chip {
+    pub part: u8,
+    pub select: u8,
+    pub register: Register,
+    pub counter: u16,
+    pub mark: bool,
+    pub busy: bool,
+    pub scl: bool,
+    pub line: bool,
+    pub phase: Phase,
+    pub load: Load,
+}
+
+// What a new chip answers.
+pub struct Made {
+    pub refusal: u8,
+    pub chip: Chip,
+}
+
+// The next chip, and the note of what made it.
+pub struct Moved {
+    pub chip: Chip,
+    pub note: u8,
+}
+
+// All that one event can do to the register and the array.
+pub enum Effect {
+    Nothing { note: u8 },
+    Change(Written),
+    Store { note: u8 },
+}
+
+impl Chip {
+    pub const BYTES: usize = 16384;
+
+    pub const SECTOR: usize = 32;
+
+    pub const SECTORS: usize = 512;
+
+    // A chip as power-up leaves it.
+    pub(crate) fn at_power_up(part: u8, select: u8, ppen: bool, bl: u8) -> Chip
+        ensures { λ r. ⌜ r ≡ atPowerUp part select ppen bl ⌝ }
+    {
+        let load = Load::none();
+        Chip {
+            part: part,
+            select: select,
+            register: Register {
+                ppen: ppen,
+                bl: bl,
+                rpel: false,
+                pel: false,
+            },
+            counter: 0,
+            mark: false,
+            busy: false,
+            scl: false,
+            line: true,
+            phase: Phase::Standby,
+            load: load,
+        }
+    }
+
+    // The standard chip: an X24128 with select 0.
+    pub fn standard() -> Chip
+        ensures { λ r. ⌜ r ≡ standardChip ⌝ }
+    {
+        Chip::at_power_up(0, 0, false, 0)
+    }
+
+    // A new chip: refusal 3, with the standard chip, for a part above 1 or a select above 7.
+    pub fn new(part: u8, select: u8) -> Made
+        ensures { λ r. ⌜ r ≡ made part select ⌝ }
+    {
+        if part <= 1 {
+            if select <= 7 {
+                return Made {
+                    refusal: 0,
+                    chip: Chip::at_power_up(part, select, false, 0),
+                };
+            }
+            return Made {
+                refusal: 3,
+                chip: Chip::standard(),
+            };
+        }
+        Made {
+            refusal: 3,
+            chip: Chip::standard(),
+        }
+    }
+
+    // Whether each number that the chip carries is in its range.
+    pub(crate) fn fits(self) -> bool
+        ensures { λ r. ⌜ r ≡ chipFits self ⌝ }
+    {
+        let phase = self.phase;
+        let load = self.load;
+        let fit = phase.fits();
+        (self.part <= 1)
+            & (self.select <= 7)
+            & (self.register.bl <= 3)
+            & (self.counter <= 16383)
+            & fit
+            & (load.count <= 33)
+    }
+
+    // Whether the chip pulls the line.
+    pub(crate) fn pulls(self) -> bool
+        ensures { λ r. ⌜ r ≡ pulls self ⌝ }
+    {
+        let phase = self.phase;
+        let pulled = phase.pulls();
+        !self.busy & pulled
+    }
+
+    // Note 7 where a load is dropped, else 0.
+    pub(crate) fn drop_note(self) -> u8
+        ensures { λ r. ⌜ r ≡ dropNote self ⌝ }
+    {
+        let load = self.load;
+        if load.count == 0 { 0 } else { 7 }
+    }
+
+    // The chip at another phase.
+    pub(crate) fn at(self, phase: Phase) -> Chip
+        ensures { λ r. ⌜ r ≡ atPhase self phase ⌝ }
+    {
+        Chip {
+            phase: phase,
+            ..self
+        }
+    }
+
+    // The chip at another phase with its load dropped.
+    pub(crate) fn empty_at(self, phase: Phase) -> Chip
+        ensures { λ r. ⌜ r ≡ emptyAt self phase ⌝ }
+    {
+        let load = Load::none();
+        Chip {
+            phase: phase,
+            load: load,
+            ..self
+        }
+    }
+}
+
+// The chip with note 0.
+pub(crate) fn quietly(chip: Chip) -> Moved
+    ensures { λ r. ⌜ r ≡ quiet chip ⌝ }
+{
+    Moved {
+        chip: chip,
+        note: 0,
+    }
+}

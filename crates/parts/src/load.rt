@@ -1,0 +1,69 @@
+// The load: what comes in for a sector, and what a store of it leaves in the array.
+ghost use mathlib.Core.Path.{_≡_};
+ghost use Prim.Native.Nat.{_+_};
+ghost use lib.ListN.{set};
+ghost use mathlib.Core.Bool.{cond};
+ghost use Rattle.parts.specs.Load.{noLoad, loaded, stored};
+
+// 32 bytes, which places are loaded, and how many bytes came, where 33 means 33 or more.
+pub struct Load {
+    pub bytes: [u8; 32],
+    pub places: [bool; 32],
+    pub count: u8,
+}
+
+// One place of a store: where it is loaded and the array has its address, it takes its byte.
+fn put(array: &mut [u8], start: usize, k: usize, on: bool, byte: u8)
+    ensures { λ r. ⌜ now (array .exit) ≡ cond on (set (now (array .entry)) (start + k) byte) (now (array .entry)) ⌝ }
+{
+    let n = array.len();
+    if on {
+        if start < n {
+            if k < n - start {
+                array[start + k] = byte;
+            }
+        }
+    }
+}
+
+impl Load {
+    // The empty load: zeros, no place, count 0.
+    pub fn none() -> Load
+        ensures { λ r. ⌜ r ≡ noLoad ⌝ }
+    {
+        Load {
+            bytes: [0; 32],
+            places: [false; 32],
+            count: 0,
+        }
+    }
+
+    // The load with one byte more, at the place of the low five bits of `at`.
+    pub fn with(self, at: u16, byte: u8) -> Load
+        ensures { λ r. ⌜ r ≡ loaded self at byte ⌝ }
+    {
+        let mut next = self;
+        let place = (at % 32) as usize;
+        next.bytes[place] = byte;
+        next.places[place] = true;
+        let count = self.count;
+        if count < 33 {
+            next.count = count + 1;
+            next
+        } else {
+            next.count = 33;
+            next
+        }
+    }
+
+    // Stores the load in the sector that begins at `start`: loaded places take their bytes, the others keep theirs.
+    pub fn store(self, array: &mut [u8], start: usize)
+        ensures { λ r. ⌜ now (array .exit) ≡ stored (now (array .entry)) start self ⌝ }
+    {
+        let mut k: usize = 0;
+        while k < 32 {
+            put(array, start, k, self.places[k], self.bytes[k]);
+            k = k + 1;
+        }
+    }
+}

@@ -1,0 +1,123 @@
+// The register: its four bits, the byte that it reads as, and what a byte written to it does.
+ghost use mathlib.Core.Path.{_≡_};
+ghost use mathlib.Core.Bool.{false};
+ghost use Prim.Native.Nat.{_≤_};
+ghost use Rattle.parts.specs.Phase.{weight};
+ghost use Rattle.parts.specs.Register.{registerByte, written, reserved, outcome, latchWritten, lockWritten};
+use crate::phase::bit_of;
+
+pub struct Register {
+    pub ppen: bool,
+    pub bl: u8,
+    pub rpel: bool,
+    pub pel: bool,
+}
+
+// What a register byte did at its stop: the register after it, whether a cycle began, and the note.
+pub struct Written {
+    pub register: Register,
+    pub busy: bool,
+    pub note: u8,
+}
+
+// `worth` where a bit is set, else 0.
+fn weigh(on: bool, worth: u8) -> u8
+    ensures { λ r. ⌜ (r ≡ weight on worth) × (r ≤ worth) ⌝ }
+{
+    if on { worth } else { 0 }
+}
+
+// Whether bit 0, 5 or 6 is set.
+fn is_reserved(byte: u8) -> bool
+    ensures { λ r. ⌜ r ≡ reserved byte ⌝ }
+{
+    bit_of(byte, 0) | bit_of(byte, 5) | bit_of(byte, 6)
+}
+
+impl Register {
+    // The byte that the register reads as: PPEN 0 0 BL1 BL0 RPEL PEL 0.
+    pub fn byte(self) -> u8
+        ensures { λ r. ⌜ r ≡ registerByte self ⌝ }
+    {
+        let high = weigh(self.ppen, 128);
+        let lock = self.bl % 4 * 8;
+        let rpel = weigh(self.rpel, 4);
+        let pel = weigh(self.pel, 2);
+        high + lock + rpel + pel
+    }
+
+    // A byte that changes no bit: note 6.
+    fn refused(self) -> Written
+        ensures { λ r. ⌜ r ≡ outcome self false 6 ⌝ }
+    {
+        Written {
+            register: self,
+            busy: false,
+            note: 6,
+        }
+    }
+
+    // The rule for RPEL 0: 00h clears PEL, 02h sets it, 06h with PEL set sets RPEL.
+    fn latch(self, byte: u8) -> Written
+        ensures { λ r. ⌜ r ≡ latchWritten self byte ⌝ }
+    {
+        if byte == 0 {
+            return Written {
+                register: Register { pel: false, ..self },
+                busy: false,
+                note: 3,
+            };
+        }
+        if byte == 2 {
+            return Written {
+                register: Register { pel: true, ..self },
+                busy: false,
+                note: 3,
+            };
+        }
+        let third = (byte == 6) & self.pel;
+        if third {
+            return Written {
+                register: Register { rpel: true, ..self },
+                busy: false,
+                note: 3,
+            };
+        }
+        self.refused()
+    }
+
+    // The rule for RPEL 1: PPEN and BL are taken from the byte, unless its low bits are wrong or the pin protects them.
+    fn lock(self, byte: u8, pin: bool) -> Written
+        ensures { λ r. ⌜ r ≡ lockWritten self byte pin ⌝ }
+    {
+        let wrong = !(byte % 8 == 2) | (self.ppen & pin);
+        if wrong {
+            return self.refused();
+        }
+        let ppen = bit_of(byte, 7);
+        Written {
+            register: Register {
+                ppen: ppen,
+                bl: byte / 8 % 4,
+                rpel: false,
+                pel: self.pel,
+            },
+            busy: true,
+            note: 2,
+        }
+    }
+
+    // What a register byte does at a rightly placed stop with the protect pin at this level.
+    pub fn written(self, byte: u8, pin: bool) -> Written
+        ensures { λ r. ⌜ r ≡ written self byte pin ⌝ }
+    {
+        if is_reserved(byte) {
+            return self.refused();
+        }
+        let rpel = self.rpel;
+        if rpel {
+            return self.lock(byte, pin);
+        }
+        self.latch(byte)
+    }
+}
