@@ -8,8 +8,8 @@ use borrow.Author.Tests.{eqb-true, eq-eqb, ne-eqb}
 use lib.Dec.{eqb}
 use lib.ListN.{length}
 use Rattle.parts.proofs.CondLaws.{cond-true, cond-false}
-use Rattle.chip.specs.Chip.{chipFits, pulls}
-use Rattle.chip.specs.Event.{next, nextArray, sampled, sampledArray, reacted, reactedArray, edgeIn, lineIn, withLevels, settled, refusal, answered, refused, eventAnswer, eventArray}
+use Rattle.chip.specs.Chip.{chipFits, pulls, withLevels}
+use Rattle.chip.specs.Event.{next, nextArray, sampled, judged, judgedArray, reacted, reactedArray, edgeIn, lineIn, settled, refusal, answered, refused, eventAnswer, eventArray}
 use Rattle.chip.specs.Transfer.{quiet}
 use Rattle.chip.specs.Wire.{lineOf}
 use Rattle.chip.specs.declared.chip.Chip.{Chip}
@@ -69,25 +69,13 @@ busy-lets-go c b = rw b
 
 -- a busy chip answers nothing: a sample sets the levels alone, the line is the master's, the note 0
 pub busy-sample : (s : Levels) (c : Chip) (xs : List ℕ) → c .busy ≡ true → next (Sample s) c xs ≡ quiet (withLevels c (s .scl) (s .sda))
-unfolding next sampled
-busy-sample s c xs b =
-    ap (λ m. settled m s) (cond-true (c .busy) (quiet c) _ b)
-    ∙ ap (λ pull. quiet (withLevels c (s .scl) (lineOf pull (s .sda)))) (busy-lets-go c b)
+unfolding next sampled judged pulls
+busy-sample s c xs b = rw b
 
 -- nor does a sample on a busy chip write a byte
 pub busy-array : (s : Levels) (c : Chip) (xs : List ℕ) → c .busy ≡ true → nextArray (Sample s) c xs ≡ xs
-unfolding nextArray sampledArray
+unfolding nextArray judgedArray
 busy-array s c xs b = cond-true (c .busy) xs _ b
-
--- on an idle chip the sample's edge acts
-pub idle-sample : (s : Levels) (c : Chip) (xs : List ℕ) → c .busy ≡ false → next (Sample s) c xs ≡ settled (reacted (edgeIn c s) c (lineIn c s) (s .pin) xs) s
-unfolding next sampled
-idle-sample s c xs b = ap (λ m. settled m s) (cond-false (c .busy) (quiet c) _ b)
-
--- and may change the array
-pub idle-array : (s : Levels) (c : Chip) (xs : List ℕ) → c .busy ≡ false → nextArray (Sample s) c xs ≡ reactedArray (edgeIn c s) c (s .pin) xs
-unfolding nextArray sampledArray
-idle-array s c xs b = cond-false (c .busy) xs _ b
 
 -- a program-done changes nothing on an idle chip
 pub done-idle : (c : Chip) (xs : List ℕ) → c .busy ≡ false → next ProgramDone c xs ≡ quiet c

@@ -1,21 +1,25 @@
--- From a chip in range every event leads to a chip in range; part and select never change. Assumes nothing.
+-- From a chip in range every event leads to a chip in range, from bytes to bytes; part and select never change. Assumes nothing.
 use Prim.Native.Nat.{ℕ, _≤_}
 use mathlib.Core.Bool.{true}
 use mathlib.Core.Path.{_≡_, refl}
 use mathlib.Core.List.{List}
 use native.Mathlib.Omega.{arith}
 use lib.ListN.{getD}
+use Rattle.parts.specs.Load.{noLoad}
 use Rattle.parts.specs.Phase.{phaseFits}
+use Rattle.parts.specs.Sector.{sectorStart, Bytes}
 use Rattle.parts.specs.declared.phase.Phase.the-variants.{Standby}
+use Rattle.parts.proofs.ByteLaws.{stored-bytes}
+use Rattle.parts.proofs.PhaseLaws.{gotOf}
 use Rattle.parts.proofs.RegisterLaws.{written-bl}
 use Rattle.chip.specs.Chip.{chipFits}
-use Rattle.chip.specs.Event.{next}
+use Rattle.chip.specs.Event.{next, nextArray}
 use Rattle.chip.specs.Stop.{effectMoved}
 use Rattle.chip.specs.View.{pinHigh}
 use Rattle.chip.specs.declared.chip.Chip.{Chip}
 use Rattle.chip.specs.declared.wire.Event.{Event}
 use Rattle.chip.proofs.FitLaws.{Within, Fits, fits-of, fits-so, power-fits}
-use Rattle.chip.proofs.StepLaws.{next-by}
+use Rattle.chip.proofs.StepLaws.{Octets, OctetsOf, none-octets, next-by}
 
 -- a chip at rest is in range if its BL and its counter are
 rested-within : (c : Chip) (bl counter : ℕ) → bl ≤ 3 → counter ≤ 0x3fff → Fits c → Within (c .part) (c .select) bl counter Standby 0
@@ -27,12 +31,12 @@ pub next-within : (e : Event) (c : Chip) (xs : List ℕ) → Fits c → Fits (ne
 unfolding effectMoved
 next-within e c xs f =
     next-by (λ m ys. Fits (m .chip)) e c xs
-    (λ m ys s g. g)
-    (λ phase counter mark load note fits. fits f)
-    (λ idle taken marked. rested-within c _ 0x0000 (written-bl (c .register) (getD (c .load .bytes) 0 0) (pinHigh e) (f .bl)) (omega arith) f)
-    (λ idle taken storable. rested-within c (c .register .bl) (c .counter) (f .bl) (f .counter) f)
-    f
-    (power-fits c f)
+    (λ m ys scl line g. g)
+    (λ phase counter mark load note m. m .fits f)
+    (λ stopped marks. rested-within c _ 0x0000 (written-bl (c .register) (getD (c .load .bytes) 0 0) (pinHigh e) (f .bl)) (omega arith) f)
+    (λ stopped storable. rested-within c (c .register .bl) (c .counter) (f .bl) (f .counter) f)
+    (λ done. f)
+    (λ up. power-fits c f)
 
 -- the same by the test of refusal 2
 pub next-fits : (e : Event) (c : Chip) (xs : List ℕ) → chipFits c ≡ true → chipFits (next e c xs .chip) ≡ true
@@ -43,9 +47,30 @@ pub next-same : (e : Event) (c : Chip) (xs : List ℕ) → (next e c xs .chip .p
 unfolding effectMoved
 next-same e c xs =
     next-by (λ m ys. (m .chip .part ≡ c .part) × (m .chip .select ≡ c .select)) e c xs
-    (λ m ys s same. same)
-    (λ phase counter mark load note fits. (refl, refl))
-    (λ idle taken marked. (refl, refl))
-    (λ idle taken storable. (refl, refl))
-    (refl, refl)
-    (refl, refl)
+    (λ m ys scl line same. same)
+    (λ phase counter mark load note m. (refl, refl))
+    (λ stopped marks. (refl, refl))
+    (λ stopped storable. (refl, refl))
+    (λ done. (refl, refl))
+    (λ up. (refl, refl))
+
+-- a chip whose load is of bytes, over an array of bytes
+abbrev pub AllBytes : Chip → List ℕ → Type 0
+AllBytes c xs = OctetsOf c × Bytes xs
+
+-- a chip at rest has an empty load
+rested-octets : Octets noLoad Standby
+unfolding gotOf
+rested-octets = none-octets Standby (omega arith)
+
+-- whatever is stored came as eight bits: bytes stay bytes
+pub next-bytes : (e : Event) (c : Chip) (xs : List ℕ) → AllBytes c xs → AllBytes (next e c xs .chip) (nextArray e c xs)
+unfolding effectMoved
+next-bytes e c xs b =
+    next-by (λ m ys. AllBytes (m .chip) ys) e c xs
+    (λ m ys scl line all. all)
+    (λ phase counter mark load note m. (m .octets (b .0), b .1))
+    (λ stopped marks. (rested-octets, b .1))
+    (λ stopped storable. (rested-octets, stored-bytes 32 xs (sectorStart (c .counter)) (c .load) (b .1) (b .0 .loads)))
+    (λ done. b)
+    (λ up. (rested-octets, b .1))

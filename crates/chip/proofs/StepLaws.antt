@@ -1,8 +1,8 @@
--- One event as a whole: what holds of a move, of a register change, of a store, of a program-done and of a power-up holds of every event.
--- Assumes nothing.
-use Prim.Native.Nat.{ℕ, zero, suc, _+_, _*_, _%_, _≤_}
+-- The walk of a step: what holds of a move, of a register change, of a store, of a program-done and of a power-up holds of every event. Each rule
+-- is followed here and nowhere else; a move brings with it what it keeps of the chip's ranges and bytes, and what its note may be. Assumes nothing.
+use Prim.Native.Nat.{ℕ, zero, suc, _+_, _*_, _%_, _≤_, _<_}
 use mathlib.Core.Bool.{Bool, true, false, cond}
-use mathlib.Core.Path.{_≡_, refl}
+use mathlib.Core.Path.{_≡_, refl, ap}
 use mathlib.Core.List.{List}
 use native.Mathlib.Omega.{arith}
 use borrow.Author.Tests.{leb-true, le-leb}
@@ -11,19 +11,22 @@ use lib.ListN.{getD}
 use Rattle.parts.specs.Load.{noLoad, loaded, stored}
 use Rattle.parts.specs.Phase.{phaseFits, risen}
 use Rattle.parts.specs.Register.{written}
-use Rattle.parts.specs.Sector.{sectorStart, nextPlace, nextAddress}
+use Rattle.parts.specs.Sector.{sectorStart, nextPlace, nextAddress, Bytes}
 use Rattle.parts.specs.declared.load.Load.{Load}
 use Rattle.parts.specs.declared.phase.Phase.{Phase}
 use Rattle.parts.specs.declared.phase.Phase.the-variants.{Standby, Slave, First, Second, Data, AckWrite, AckRead, AckFirst, AckByte, Sending, Waiting, Next}
+use Rattle.parts.proofs.ByteLaws.{set-bytes, same-bytes}
 use Rattle.parts.proofs.CondLaws.{cond-by}
 use Rattle.parts.proofs.LoadLaws.{loaded-most}
-use Rattle.parts.proofs.PhaseLaws.{risen-fits}
+use Rattle.parts.proofs.PhaseLaws.{gotOf, Small, risen-fits, risen-small}
 use Rattle.parts.proofs.SectorLaws.{next-place-fits, next-address-fits}
-use Rattle.chip.specs.Chip.{powerUp}
-use Rattle.chip.specs.Event.{next, nextArray, sampled, sampledArray, reacted, reactedArray, edgeIn, lineIn, programDone, settled}
+use Rattle.chip.specs.Chip.{withTransfer, powerUp, pulls}
+use Rattle.chip.specs.Event.{next, nextArray, sampled, judged, judgedArray, reacted, reactedArray, edgeIn, lineIn, programDone, settled}
+use Rattle.chip.specs.Part.{selects, marked, enabled}
 use Rattle.chip.specs.Stop.{effectMoved, effectArray}
-use Rattle.chip.specs.Transfer.{moved, quiet, withTransfer, atPhase, emptyAt, fallIn, slaveTaken, addressed, addressTaken, arrayData, registerData, byteBegun, nextByte, byteEnded, dropNote}
-use Rattle.chip.specs.View.{pinHigh}
+use Rattle.chip.specs.Transfer.{moved, quiet, atPhase, emptyAt, fallIn, slaveTaken, addressed, addressTaken, arrayData, registerData, byteBegun, nextByte, byteEnded, dropNote}
+use Rattle.chip.specs.View.{pinHigh, mute, isStop, stops, Stopped, Storable}
+use Rattle.chip.specs.Wire.{lineOf}
 use Rattle.chip.specs.declared.chip.Chip.{Chip}
 use Rattle.chip.specs.declared.chip.Effect.the-variants.{Change, Store}
 use Rattle.chip.specs.declared.chip.Moved.{Moved}
@@ -33,144 +36,182 @@ use Rattle.chip.specs.declared.wire.Event.{Event}
 use Rattle.chip.specs.declared.wire.Event.the-variants.{Sample, ProgramDone, PowerUp}
 use Rattle.chip.specs.declared.wire.Sample.{Sample as Levels}
 use Rattle.chip.proofs.FitLaws.{Fits}
-use Rattle.chip.proofs.StopLaws.{Taken, Storable, stop-by}
+use Rattle.chip.proofs.StopLaws.{drop-mute, stop-by}
 
--- `P` holds of every move: another phase, counter, mark and load, in range if the chip was, with any note
+-- the load and what comes into it are bytes
+pub record Octets (load : Load) (p : Phase) : Type 0 where
+  pub loads : Bytes (load .bytes)
+  pub got : Small p
+
+-- of a chip
+abbrev pub OctetsOf : Chip → Type 0
+OctetsOf c = Octets (c .load) (c .phase)
+
+-- an empty load
+pub none-octets : (p : Phase) → Small p → Octets noLoad p
+none-octets p g = record { loads = same-bytes 32 0 (omega arith); got = g }
+
+-- what a move keeps: in range and of bytes if the chip was; and its note says nothing of a write
+pub record Moving (c : Chip) (phase : Phase) (counter : ℕ) (mark : Bool) (load : Load) (note : ℕ) : Type 0 where
+  pub fits : Fits c → Fits (withTransfer c phase counter mark load)
+  pub octets : OctetsOf c → Octets load phase
+  pub silent : mute note ≡ true
+
+-- `P` holds of every move: another phase, counter, mark and load
 abbrev pub Moves : (Moved → Type 0) → Chip → Type 0
 Moves P c =
-    (phase : Phase) (counter : ℕ) (mark : Bool) (load : Load) (note : ℕ) → (Fits c → Fits (withTransfer c phase counter mark load))
+    (phase : Phase) (counter : ℕ) (mark : Bool) (load : Load) (note : ℕ) → Moving c phase counter mark load note
     → P (moved (withTransfer c phase counter mark load) note)
 
 module _ (P : Moved → Type 0) (c : Chip) (move : Moves P c) where
-  -- a move to what is in range if the chip is
-  put : (phase : Phase) (counter : ℕ) (mark : Bool) (load : Load) (note : ℕ) → (Fits c → phaseFits phase ≡ true) → (Fits c → counter ≤ 0x3fff) → (Fits c → load .count ≤ 33)
-      → P (moved (withTransfer c phase counter mark load) note)
-  put phase counter mark load note p k n =
-      move phase counter mark load note
-      (λ f. record { part = f .part; select = f .select; bl = f .bl; counter = k f; phase = p f; count = n f })
+  -- a move with another counter, the load as it was
+  jump : (phase : Phase) (counter : ℕ) (mark : Bool) → (Fits c → phaseFits phase ≡ true) → (Fits c → counter ≤ 0x3fff) → (OctetsOf c → Small phase)
+      → P (quiet (withTransfer c phase counter mark (c .load)))
+  unfolding mute
+  jump phase counter mark p k g =
+      move phase counter mark (c .load) 0
+      (record {
+        fits = λ f. record { part = f .part; select = f .select; bl = f .bl; counter = k f; phase = p f; count = f .count };
+        octets = λ o. record { loads = o .loads; got = g o };
+        silent = refl;
+      })
 
   -- a move to another phase alone
-  go-to : (phase : Phase) → (Fits c → phaseFits phase ≡ true) → P (quiet (atPhase c phase))
-  go-to phase p = put phase (c .counter) (c .mark) (c .load) 0 p (λ f. f .counter) (λ f. f .count)
+  go-to : (phase : Phase) → (Fits c → phaseFits phase ≡ true) → (OctetsOf c → Small phase) → P (quiet (atPhase c phase))
+  go-to phase p g = jump phase (c .counter) (c .mark) p (λ f. f .counter) g
 
   -- a move that drops the load
-  drop-at : (phase : Phase) (note : ℕ) → phaseFits phase ≡ true → P (moved (emptyAt c phase) note)
-  drop-at phase note p = put phase (c .counter) (c .mark) noLoad note (λ f. p) (λ f. f .counter) (λ f. omega arith)
+  drop-at : (phase : Phase) (note : ℕ) → phaseFits phase ≡ true → Small phase → mute note ≡ true → P (moved (emptyAt c phase) note)
+  drop-at phase note p g q =
+      move phase (c .counter) (c .mark) noLoad note
+      (record {
+        fits = λ f. record { part = f .part; select = f .select; bl = f .bl; counter = f .counter; phase = p; count = omega arith };
+        octets = λ o. none-octets phase g;
+        silent = q;
+      })
+
+  -- a move that brings a byte into the load
+  load-at : (counter at byte : ℕ) → (Fits c → counter ≤ 0x3fff) → (OctetsOf c → byte < 0x100) → P (quiet (withTransfer c AckByte counter (c .mark) (loaded (c .load) at byte)))
+  unfolding loaded phaseFits gotOf mute
+  load-at counter at byte k b =
+      move AckByte counter (c .mark) (loaded (c .load) at byte) 0
+      (record {
+        fits = λ f. record { part = f .part; select = f .select; bl = f .bl; counter = k f; phase = refl; count = loaded-most (c .load) at byte };
+        octets = λ o. record { loads = set-bytes (c .load .bytes) (at % 32) byte (o .loads) (b o); got = omega arith };
+        silent = refl;
+      })
 
   -- the move that changes nothing
   stay : P (quiet c)
-  stay = go-to (c .phase) (λ f. f .phase)
+  stay = go-to (c .phase) (λ f. f .phase) (λ o. o .got)
 
   -- a slave byte is taken by a move
   slave-by : (byte : ℕ) → P (quiet (slaveTaken c byte))
-  unfolding slaveTaken phaseFits
+  unfolding slaveTaken phaseFits gotOf
   slave-by byte =
-      go-to _
-      (λ f. cond-by (λ p. phaseFits p ≡ true) (addressed (c .select) byte) _ Standby
-      (λ e. cond-by (λ p. phaseFits p ≡ true) (eqb (byte % 2) 0) AckWrite AckRead (λ w. refl) (λ r. refl))
-      (λ e. refl))
+      cond-by (λ p. P (quiet (atPhase c p))) (addressed (c .select) byte) _ Standby
+      (λ e. cond-by (λ p. P (quiet (atPhase c p))) (eqb (byte % 2) 0) AckWrite AckRead (λ w. go-to AckWrite (λ f. refl) (λ o. omega arith)) (λ r. go-to AckRead (λ f. refl) (λ o. omega arith)))
+      (λ e. go-to Standby (λ f. refl) (λ o. omega arith))
 
   -- an address is taken by a move
   address-by : (address : ℕ) → P (quiet (addressTaken c address))
-  unfolding addressTaken phaseFits
+  unfolding addressTaken phaseFits gotOf
   address-by address =
-      cond-by (λ d. P (quiet d)) (eqb address 0xffff) _ _
-      (λ e. put AckByte (c .counter) true (c .load) 0 (λ f. refl) (λ f. f .counter) (λ f. f .count))
-      (λ e. put AckByte (address % 0x4000) false (c .load) 0 (λ f. refl) (λ f. omega arith) (λ f. f .count))
+      cond-by (λ d. P (quiet d)) (selects (c .part) address) _ _
+      (λ e. jump AckByte (c .counter) true (λ f. refl) (λ f. f .counter) (λ o. omega arith))
+      (λ e. jump AckByte (address % 0x4000) false (λ f. refl) (λ f. omega arith) (λ o. omega arith))
 
   -- a data byte to the array is taken by a move
-  array-by : (byte : ℕ) → P (arrayData c byte)
-  unfolding arrayData phaseFits
-  array-by byte =
-      cond-by (λ d. P (quiet d)) (c .register .pel) _ _
-      (λ e. put AckByte (nextPlace (c .counter)) (c .mark) (loaded (c .load) (c .counter) byte) 0
-      (λ f. refl) (λ f. next-place-fits (c .counter) (f .counter)) (λ f. loaded-most (c .load) (c .counter) byte))
-      (λ e. go-to Standby (λ f. refl))
+  array-by : (byte : ℕ) → (OctetsOf c → byte < 0x100) → P (arrayData c byte)
+  unfolding arrayData phaseFits gotOf
+  array-by byte b =
+      cond-by (λ d. P (quiet d)) (enabled (c .part) (c .register .pel)) _ _
+      (λ e. load-at (nextPlace (c .counter)) (c .counter) byte (λ f. next-place-fits (c .counter) (f .counter)) b)
+      (λ e. go-to Standby (λ f. refl) (λ o. omega arith))
 
   -- a data byte with the mark is taken by a move
-  register-by : (byte : ℕ) → P (registerData c byte)
-  unfolding registerData phaseFits
-  register-by byte =
+  register-by : (byte : ℕ) → (OctetsOf c → byte < 0x100) → P (registerData c byte)
+  unfolding registerData phaseFits gotOf mute
+  register-by byte b =
       cond-by P (eqb (c .load .count) 0) _ _
-      (λ e. put AckByte (c .counter) (c .mark) (loaded (c .load) 0 byte) 0 (λ f. refl) (λ f. f .counter) (λ f. loaded-most (c .load) 0 byte))
-      (λ e. drop-at Standby 7 refl)
+      (λ e. load-at (c .counter) 0 byte (λ f. f .counter) b)
+      (λ e. drop-at Standby 7 refl (omega arith) refl)
 
   -- a byte that is sent ends with a move
   ended-by : P (quiet (byteEnded c))
-  unfolding byteEnded phaseFits
+  unfolding byteEnded phaseFits gotOf
   ended-by =
-      cond-by (λ d. P (quiet d)) (c .mark) _ _
-      (λ e. put Standby 0x0000 false (c .load) 0 (λ f. refl) (λ f. omega arith) (λ f. f .count))
-      (λ e. put Waiting (nextAddress (c .counter)) (c .mark) (c .load) 0 (λ f. refl) (λ f. next-address-fits (c .counter)) (λ f. f .count))
+      cond-by (λ d. P (quiet d)) (marked (c .part) (c .mark)) _ _
+      (λ e. jump Standby 0x0000 false (λ f. refl) (λ f. omega arith) (λ o. omega arith))
+      (λ e. jump Waiting (nextAddress (c .counter)) (c .mark) (λ f. refl) (λ f. next-address-fits (c .counter)) (λ o. omega arith))
 
   -- a clock fall is a move
   pub fall-by : (p : Phase) (xs : List ℕ) → c .phase ≡ p → P (fallIn p c xs)
-  unfolding fallIn byteBegun phaseFits
+  unfolding fallIn byteBegun phaseFits gotOf
   fall-by Standby xs at = stay
   fall-by (Slave bits got) xs at = cond-by (λ d. P (quiet d)) (eqb bits 8) (slaveTaken c got) c (λ e. slave-by got) (λ e. stay)
-  fall-by (First bits got) xs at = cond-by (λ d. P (quiet d)) (eqb bits 8) (atPhase c (AckFirst got)) c (λ e. go-to (AckFirst got) (λ f. refl)) (λ e. stay)
+  fall-by (First bits got) xs at = cond-by (λ d. P (quiet d)) (eqb bits 8) (atPhase c (AckFirst got)) c (λ e. go-to (AckFirst got) (λ f. refl) (λ o. omega arith)) (λ e. stay)
   fall-by (Second high bits got) xs at =
       cond-by (λ d. P (quiet d)) (eqb bits 8) (addressTaken c (high * 256 + got)) c (λ e. address-by (high * 256 + got)) (λ e. stay)
   fall-by (Data bits got) xs at =
       cond-by P (eqb bits 8) _ (quiet c)
-      (λ e. cond-by P (c .mark) (registerData c got) (arrayData c got) (λ m. register-by got) (λ m. array-by got))
+      (λ e. cond-by P (marked (c .part) (c .mark)) (registerData c got) (arrayData c got) (λ m. register-by got (λ o. rw at at (o .got))) (λ m. array-by got (λ o. rw at at (o .got))))
       (λ e. stay)
-  fall-by AckWrite xs at = go-to (First 0 0) (λ f. refl)
-  fall-by AckRead xs at = go-to (Sending 7 (nextByte c xs)) (λ f. refl)
-  fall-by (AckFirst high) xs at = go-to (Second high 0 0) (λ f. refl)
-  fall-by AckByte xs at = go-to (Data 0 0) (λ f. refl)
+  fall-by AckWrite xs at = go-to (First 0 0) (λ f. refl) (λ o. omega arith)
+  fall-by AckRead xs at = go-to (Sending 7 (nextByte c xs)) (λ f. refl) (λ o. omega arith)
+  fall-by (AckFirst high) xs at = go-to (Second high 0 0) (λ f. refl) (λ o. omega arith)
+  fall-by AckByte xs at = go-to (Data 0 0) (λ f. refl) (λ o. omega arith)
   fall-by (Sending zero byte) xs at = ended-by
-  fall-by (Sending (suc bit) byte) xs at = go-to (Sending bit byte) (λ f. le-leb bit 7 (omega (arith, leb-true (suc bit) 7 (rw at at (f .phase)))))
+  fall-by (Sending (suc bit) byte) xs at = go-to (Sending bit byte) (λ f. le-leb bit 7 (omega (arith, leb-true (suc bit) 7 (rw at at (f .phase))))) (λ o. omega arith)
   fall-by Waiting xs at = stay
-  fall-by Next xs at = go-to (Sending 7 (nextByte c xs)) (λ f. refl)
+  fall-by Next xs at = go-to (Sending 7 (nextByte c xs)) (λ f. refl) (λ o. omega arith)
 
--- `P` holds of the register byte's change at a stop with this pin
-abbrev pub Changes : (Moved → List ℕ → Type 0) → Chip → List ℕ → Bool → Type 0
-Changes P c xs pin =
-    Taken c → c .mark ≡ true
-    → P (effectMoved (Change (written (c .register) (getD (c .load .bytes) 0 0) pin)) c) xs
+-- `P` holds of the register byte's change that this event makes
+abbrev pub Changes : (Moved → List ℕ → Type 0) → Event → Chip → List ℕ → Type 0
+Changes P e c xs =
+    Stopped e c → marked (c .part) (c .mark) ≡ true
+    → P (effectMoved (Change (written (c .register) (getD (c .load .bytes) 0 0) (pinHigh e))) c) xs
 
--- `P` holds of the store at a stop with this pin
-abbrev pub Stores : (Moved → List ℕ → Type 0) → Chip → List ℕ → Bool → Type 0
-Stores P c xs pin = Taken c → Storable c pin → P (effectMoved (Store 1) c) (stored xs (sectorStart (c .counter)) (c .load))
+-- `P` holds of the store that it makes
+abbrev pub Stores : (Moved → List ℕ → Type 0) → Event → Chip → List ℕ → Type 0
+Stores P e c xs = Stopped e c → Storable c (pinHigh e) → P (effectMoved (Store 1) c) (stored xs (sectorStart (c .counter)) (c .load))
 
--- every edge is a move, a register change or a store
-pub react-by : (P : Moved → List ℕ → Type 0) (edge : Edge) (c : Chip) (line pin : Bool) (xs : List ℕ)
-    → Moves (λ m. P m xs) c → Changes P c xs pin → Stores P c xs pin
-    → P (reacted edge c line pin xs) (reactedArray edge c pin xs)
-unfolding reacted reactedArray effectArray phaseFits
-react-by P Quiet c line pin xs move change store = stay (λ m. P m xs) c move
-react-by P Start c line pin xs move change store = drop-at (λ m. P m xs) c move (Slave 0 0) (dropNote c) refl
-react-by P Stop c line pin xs move change store =
-    stop-by (λ effect. P (effectMoved effect c) (effectArray effect c xs)) c pin
-    (λ note. unfold effectMoved in drop-at (λ m. P m xs) c move Standby note refl)
-    change store
-react-by P Rise c line pin xs move change store =
-    go-to (λ m. P m xs) c move (risen (c .phase) line) (λ f. risen-fits (c .phase) line (f .phase))
-react-by P Fall c line pin xs move change store = fall-by (λ m. P m xs) c move (c .phase) xs refl
+-- every edge of an idle chip is a move, a register change or a store
+react-by : (P : Moved → List ℕ → Type 0) (s : Levels) (c : Chip) (xs : List ℕ) (edge : Edge) → c .busy ≡ false → edgeIn c s ≡ edge
+    → Moves (λ m. P m xs) c → Changes P (Sample s) c xs → Stores P (Sample s) c xs
+    → P (reacted edge c (lineIn c s) (s .pin) xs) (reactedArray edge c (s .pin) xs)
+unfolding reacted reactedArray effectArray phaseFits gotOf mute pinHigh stops isStop
+react-by P s c xs Quiet idle edge move change store = stay (λ m. P m xs) c move
+react-by P s c xs Start idle edge move change store = drop-at (λ m. P m xs) c move (Slave 0 0) (dropNote c) refl (omega arith) (drop-mute c)
+react-by P s c xs Stop idle edge move change store =
+    stop-by (λ effect. P (effectMoved effect c) (effectArray effect c xs)) c (s .pin)
+    (λ note q. unfold effectMoved in drop-at (λ m. P m xs) c move Standby note refl (omega arith) q)
+    (λ right some. change (record { idle = idle; stop = ap isStop edge; right = right; some = some }))
+    (λ right some. store (record { idle = idle; stop = ap isStop edge; right = right; some = some }))
+react-by P s c xs Rise idle edge move change store =
+    go-to (λ m. P m xs) c move (risen (c .phase) (lineIn c s)) (λ f. risen-fits (c .phase) (lineIn c s) (f .phase)) (λ o. risen-small (c .phase) (lineIn c s) (o .got))
+react-by P s c xs Fall idle edge move change store = fall-by (λ m. P m xs) c move (c .phase) xs refl
 
--- every sample sets the levels; on a busy chip it does no more, on an idle one its edge acts
-pub sample-by : (P : Moved → List ℕ → Type 0) (s : Levels) (c : Chip) (xs : List ℕ)
-    → ((m : Moved) (ys : List ℕ) → P m ys → P (settled m s) ys)
-    → Moves (λ m. P m xs) c → (c .busy ≡ false → Changes P c xs (s .pin)) → (c .busy ≡ false → Stores P c xs (s .pin))
-    → P (sampled c xs s) (sampledArray c xs s)
-unfolding sampled sampledArray
-sample-by P s c xs settle move change store = go (c .busy) refl
+-- a busy chip does not move, an idle one reacts
+judge-by : (P : Moved → List ℕ → Type 0) (s : Levels) (c : Chip) (xs : List ℕ)
+    → Moves (λ m. P m xs) c → Changes P (Sample s) c xs → Stores P (Sample s) c xs
+    → P (judged c xs (s .scl) (lineIn c s) (s .pin)) (judgedArray c xs (s .scl) (lineIn c s) (s .pin))
+unfolding judged judgedArray
+judge-by P s c xs move change store = go (c .busy) refl
   where
     go : (busy : Bool) → c .busy ≡ busy
-        → P (settled (cond busy (quiet c) (reacted (edgeIn c s) c (lineIn c s) (s .pin) xs)) s) (cond busy xs (reactedArray (edgeIn c s) c (s .pin) xs))
-    go true b = settle (quiet c) xs (stay (λ m. P m xs) c move)
-    go false b =
-        settle (reacted (edgeIn c s) c (lineIn c s) (s .pin) xs) (reactedArray (edgeIn c s) c (s .pin) xs)
-        (react-by P (edgeIn c s) c (lineIn c s) (s .pin) xs move (change b) (store b))
+        → P (cond busy (quiet c) (reacted (edgeIn c s) c (lineIn c s) (s .pin) xs)) (cond busy xs (reactedArray (edgeIn c s) c (s .pin) xs))
+    go true b = stay (λ m. P m xs) c move
+    go false b = react-by P s c xs (edgeIn c s) b refl move change store
 
--- every event is a sample, a program-done or a power-up
+-- every event is a sample, which sets the levels besides, a program-done or a power-up
 pub next-by : (P : Moved → List ℕ → Type 0) (e : Event) (c : Chip) (xs : List ℕ)
-    → ((m : Moved) (ys : List ℕ) (s : Levels) → P m ys → P (settled m s) ys)
-    → Moves (λ m. P m xs) c → (c .busy ≡ false → Changes P c xs (pinHigh e)) → (c .busy ≡ false → Stores P c xs (pinHigh e))
-    → P (quiet (programDone c)) xs → P (quiet (powerUp c)) xs
+    → ((m : Moved) (ys : List ℕ) (scl line : Bool) → P m ys → P (settled m scl line) ys)
+    → Moves (λ m. P m xs) c → Changes P e c xs → Stores P e c xs
+    → (e ≡ ProgramDone → P (quiet (programDone c)) xs) → (e ≡ PowerUp → P (quiet (powerUp c)) xs)
     → P (next e c xs) (nextArray e c xs)
-unfolding next nextArray pinHigh
-next-by P (Sample s) c xs settle move change store done up = sample-by P s c xs (λ m ys. settle m ys s) move change store
-next-by P ProgramDone c xs settle move change store done up = done
-next-by P PowerUp c xs settle move change store done up = up
+unfolding next nextArray sampled
+next-by P (Sample s) c xs settle move change store done up =
+    settle (judged c xs (s .scl) (lineIn c s) (s .pin)) (judgedArray c xs (s .scl) (lineIn c s) (s .pin)) (s .scl) _ (judge-by P s c xs move change store)
+next-by P ProgramDone c xs settle move change store done up = done refl
+next-by P PowerUp c xs settle move change store done up = up refl

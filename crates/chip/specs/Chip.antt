@@ -1,7 +1,10 @@
--- The chip: the ranges of its numbers, its pull, and how it is at power-up. (The paper, "What a chip carries", "Samples and edges".)
+-- The chip: its fields set group by group, the ranges of its numbers, its pull, and how it is made. (RULES C1-C14, F2, F3, L1, U4.)
 --
 -- | Name | Meaning |
 -- |---|---|
+-- | `withTransfer c phase counter mark load` | the chip elsewhere in its transfer |
+-- | `withCycle c register busy` | the chip with another register and busy flag |
+-- | `withLevels c scl line` | the chip with other last levels |
 -- | `chipFits` | every number is in its range: else refusal 2 |
 -- | `pulls` | the chip pulls the line |
 -- | `atPowerUp` | a chip as power-up leaves it |
@@ -12,11 +15,62 @@ use mathlib.Core.Bool.{Bool, true, false, not, cond, _&&_}
 use lib.Dec.{leb}
 use Rattle.parts.specs.Load.{noLoad}
 use Rattle.parts.specs.Phase.{phaseFits, phasePulls}
+use Rattle.parts.specs.declared.load.Load.{Load}
+use Rattle.parts.specs.declared.phase.Phase.{Phase}
 use Rattle.parts.specs.declared.phase.Phase.the-variants.{Standby}
+use Rattle.parts.specs.declared.register.Register.{Register}
 use Rattle.chip.specs.declared.chip.Chip.{Chip}
 use Rattle.chip.specs.declared.chip.Made.{Made}
 
--- part 0-1, select 0-7, BL 0-3, counter 0-3FFFh, the phase's own, count 0-33
+-- what a transfer changes
+abbrev pub withTransfer : Chip → Phase → ℕ → Bool → Load → Chip
+withTransfer c phase counter mark load =
+    record {
+      part = c .part;
+      select = c .select;
+      register = c .register;
+      counter = counter;
+      mark = mark;
+      busy = c .busy;
+      scl = c .scl;
+      line = c .line;
+      phase = phase;
+      load = load;
+    }
+
+-- what a cycle changes
+abbrev pub withCycle : Chip → Register → Bool → Chip
+withCycle c register busy =
+    record {
+      part = c .part;
+      select = c .select;
+      register = register;
+      counter = c .counter;
+      mark = c .mark;
+      busy = busy;
+      scl = c .scl;
+      line = c .line;
+      phase = c .phase;
+      load = c .load;
+    }
+
+-- what a sample leaves in every case
+abbrev pub withLevels : Chip → Bool → Bool → Chip
+withLevels c scl line =
+    record {
+      part = c .part;
+      select = c .select;
+      register = c .register;
+      counter = c .counter;
+      mark = c .mark;
+      busy = c .busy;
+      scl = scl;
+      line = line;
+      phase = c .phase;
+      load = c .load;
+    }
+
+-- F2: part 0-1, select 0-7, BL 0-3, counter 0-3FFFh, the phase's own, count 0-33
 unfoldable pub chipFits : Chip → Bool
 chipFits c =
     leb (c .part) 1
@@ -26,18 +80,18 @@ chipFits c =
     && phaseFits (c .phase)
     && leb (c .load .count) 33
 
--- a busy chip pulls nowhere
+-- L1, U1: a busy chip pulls nowhere
 unfoldable pub pulls : Chip → Bool
 pulls c = not (c .busy) && phasePulls (c .phase)
 
--- PPEN and BL outlive the supply; all else is cleared, with SCL low and the line high as the last levels
+-- U4: PPEN and BL outlive the supply; all else is cleared, with SCL low and the line high as the last levels
 abbrev pub atPowerUp : ℕ → ℕ → Bool → ℕ → Chip
 atPowerUp part select ppen bl =
     record {
       part = part;
       select = select;
       register = record { ppen = ppen; bl = bl; rpel = false; pel = false };
-      counter = 0;
+      counter = 0x0000;
       mark = false;
       busy = false;
       scl = false;
@@ -50,15 +104,15 @@ atPowerUp part select ppen bl =
 abbrev pub powerUp : Chip → Chip
 powerUp c = atPowerUp (c .part) (c .select) (c .register .ppen) (c .register .bl)
 
--- PPEN clear, BL 0
+-- C13: PPEN clear, BL 0
 abbrev pub newChip : ℕ → ℕ → Chip
 newChip part select = atPowerUp part select false 0
 
--- an X24128, select 0
+-- C14: an X24128, select 0
 abbrev pub standardChip : Chip
 standardChip = newChip 0 0
 
--- refusal 3, with the standard chip, for a part above 1 or a select above 7
+-- F3: for a part above 1 or a select above 7 refusal 3, with the standard chip
 unfoldable pub made : ℕ → ℕ → Made
 made part select =
     cond (leb part 1) (cond (leb select 7) (record { refusal = 0; chip = newChip part select }) (record { refusal = 3; chip = standardChip }))

@@ -1,11 +1,12 @@
 -- One event: a sample, program-done or power-up; what it answers, and when it is refused.
--- (The paper, "Samples and edges" and "Refusals and what they return".)
+-- (RULES E1, E2, L2-L8, U1-U5, F1, F2, O2, O9, O10.)
 --
 -- | Name | Meaning |
 -- |---|---|
 -- | `reacted`, `reactedArray` | the chip and the array after an edge, with the line and the pin of its sample |
 -- | `lineIn`, `edgeIn` | the line in a sample, with the pull before it; the sample's edge |
--- | `withLevels`, `settled` | the last levels set; the clock of the sample, and the line with the pull after it |
+-- | `judged`, `judgedArray` | after an edge of a line that is handed in; a busy chip ignores it |
+-- | `settled` | with these last levels |
 -- | `sampled`, `sampledArray` | after a sample |
 -- | `programDone` | after a program-done |
 -- | `next`, `nextArray` | after an event |
@@ -17,10 +18,10 @@ use mathlib.Core.Bool.{Bool, true, false, cond}
 use mathlib.Core.List.{List}
 use lib.Dec.{eqb}
 use lib.ListN.{length}
-use Rattle.parts.specs.declared.phase.Phase.{Phase}
-use Rattle.chip.specs.Chip.{chipFits, pulls, powerUp}
+use Rattle.parts.specs.Phase.{risen}
+use Rattle.chip.specs.Chip.{withCycle, withLevels, chipFits, pulls, powerUp}
 use Rattle.chip.specs.Stop.{stopEffect, effectMoved, effectArray}
-use Rattle.chip.specs.Transfer.{moved, quiet, started, rose, fell}
+use Rattle.chip.specs.Transfer.{moved, quiet, atPhase, started, fell}
 use Rattle.chip.specs.Wire.{lineOf, edgeOf}
 use Rattle.chip.specs.declared.event.Answer.{Answer}
 use Rattle.chip.specs.declared.chip.Chip.{Chip}
@@ -31,12 +32,12 @@ use Rattle.chip.specs.declared.wire.Event.{Event}
 use Rattle.chip.specs.declared.wire.Event.the-variants.{Sample, ProgramDone, PowerUp}
 use Rattle.chip.specs.declared.wire.Sample.{Sample as Levels}
 
--- the edges, and what each does
+-- L4: the edges, and what each does
 unfoldable pub reacted : Edge → Chip → Bool → Bool → List ℕ → Moved
 reacted Quiet c line pin xs = quiet c
 reacted Start c line pin xs = started c
 reacted Stop c line pin xs = effectMoved (stopEffect c pin) c
-reacted Rise c line pin xs = quiet (rose c line)
+reacted Rise c line pin xs = quiet (atPhase c (risen (c .phase) line))
 reacted Fall c line pin xs = fell c xs
 
 -- only a stop can write
@@ -47,7 +48,7 @@ reactedArray Stop c pin xs = effectArray (stopEffect c pin) c xs
 reactedArray Rise c pin xs = xs
 reactedArray Fall c pin xs = xs
 
--- a sample is judged with the pull before it
+-- L2, L3: a sample is judged with the pull before it
 abbrev pub lineIn : Chip → Levels → Bool
 lineIn c s = lineOf (pulls c) (s .sda)
 
@@ -55,51 +56,33 @@ lineIn c s = lineOf (pulls c) (s .sda)
 abbrev pub edgeIn : Chip → Levels → Edge
 edgeIn c s = edgeOf (c .scl) (s .scl) (c .line) (lineIn c s)
 
--- the last levels
-abbrev pub withLevels : Chip → Bool → Bool → Chip
-withLevels c scl line =
-    record {
-      part = c .part;
-      select = c .select;
-      register = c .register;
-      counter = c .counter;
-      mark = c .mark;
-      busy = c .busy;
-      scl = scl;
-      line = line;
-      phase = c .phase;
-      load = c .load;
-    }
-
--- the line that is kept and reported has the pull after the event
-abbrev pub settled : Moved → Levels → Moved
-settled m s = moved (withLevels (m .chip) (s .scl) (lineOf (pulls (m .chip)) (s .sda))) (m .note)
-
--- a busy chip tracks the levels and nothing else
-unfoldable pub sampled : Chip → List ℕ → Levels → Moved
-sampled c xs s = settled (cond (c .busy) (quiet c) (reacted (edgeIn c s) c (lineIn c s) (s .pin) xs)) s
+-- U1: a busy chip ignores the edge, another reacts to it. The line is handed in: on wires that chips share it is not this chip's alone
+unfoldable pub judged : Chip → List ℕ → Bool → Bool → Bool → Moved
+judged c xs scl line pin = cond (c .busy) (quiet c) (reacted (edgeOf (c .scl) scl (c .line) line) c line pin xs)
 
 -- and writes nothing
-unfoldable pub sampledArray : Chip → List ℕ → Levels → List ℕ
-sampledArray c xs s = cond (c .busy) xs (reactedArray (edgeIn c s) c (s .pin) xs)
+unfoldable pub judgedArray : Chip → List ℕ → Bool → Bool → Bool → List ℕ
+judgedArray c xs scl line pin = cond (c .busy) xs (reactedArray (edgeOf (c .scl) scl (c .line) line) c pin xs)
 
--- busy ends, all else stays, the kept line too
+-- L6: the levels are kept in every case
+abbrev pub settled : Moved → Bool → Bool → Moved
+settled m scl line = moved (withLevels (m .chip) scl line) (m .note)
+
+-- one chip on its wires: judged by the line with its pull before the sample, it keeps and reports the one with its pull after it
+unfoldable pub sampled : Chip → List ℕ → Levels → Moved
+sampled c xs s =
+    let m : Moved = judged c xs (s .scl) (lineIn c s) (s .pin) in
+    settled m (s .scl) (lineOf (pulls (m .chip)) (s .sda))
+
+-- what its reaction leaves
+abbrev pub sampledArray : Chip → List ℕ → Levels → List ℕ
+sampledArray c xs s = judgedArray c xs (s .scl) (lineIn c s) (s .pin)
+
+-- U3: busy ends, all else stays, the kept line too
 abbrev pub programDone : Chip → Chip
-programDone c =
-    record {
-      part = c .part;
-      select = c .select;
-      register = c .register;
-      counter = c .counter;
-      mark = c .mark;
-      busy = false;
-      scl = c .scl;
-      line = c .line;
-      phase = c .phase;
-      load = c .load;
-    }
+programDone c = withCycle c (c .register) false
 
--- the reported line is the one that the next chip keeps
+-- E2, L6: the reported line is the one that the next chip keeps
 unfoldable pub next : Event → Chip → List ℕ → Moved
 next (Sample s) c xs = sampled c xs s
 next ProgramDone c xs = quiet (programDone c)
@@ -111,7 +94,7 @@ nextArray (Sample s) c xs = sampledArray c xs s
 nextArray ProgramDone c xs = xs
 nextArray PowerUp c xs = xs
 
--- 1 for an array that is not 16,384 bytes, then 2 for a number outside its range
+-- F1, F2: 1 for an array that is not 16,384 bytes, then 2 for a number outside its range
 unfoldable pub refusal : Chip → List ℕ → ℕ
 refusal c xs = cond (eqb (length xs) 16384) (cond (chipFits c) 0 2) 1
 
@@ -119,7 +102,7 @@ refusal c xs = cond (eqb (length xs) 16384) (cond (chipFits c) 0 2) 1
 abbrev pub answered : ℕ → Moved → Answer
 answered number m = record { refusal = number; chip = m .chip; line = m .chip .line; note = m .note }
 
--- the chip as given, the line high, note 0
+-- O9: the chip as given, the line high, note 0
 abbrev pub refused : ℕ → Chip → Answer
 refused number c = record { refusal = number; chip = c; line = true; note = 0 }
 
@@ -127,6 +110,6 @@ refused number c = record { refusal = number; chip = c; line = true; note = 0 }
 unfoldable pub eventAnswer : Event → Chip → List ℕ → Answer
 eventAnswer e c xs = cond (eqb (refusal c xs) 0) (answered 0 (next e c xs)) (refused (refusal c xs) c)
 
--- a refusal writes nothing
+-- O10: a refusal writes nothing
 unfoldable pub eventArray : Event → Chip → List ℕ → List ℕ
 eventArray e c xs = cond (eqb (refusal c xs) 0) (nextArray e c xs) xs

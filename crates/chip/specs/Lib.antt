@@ -1,5 +1,6 @@
 pub mod Chip
 pub mod Event
+pub mod Part
 pub mod Run
 pub mod Stop
 pub mod Transfer

@@ -9,6 +9,7 @@
 use Prim.Native.Nat.{ℕ}
 use mathlib.Core.Bool.{Bool}
 use mathlib.Core.List.{List, [], _∷_}
+use Rattle.parts.specs.Rows.{stepped}
 use Rattle.chip.specs.Event.{next, nextArray}
 use Rattle.chip.specs.declared.chip.Chip.{Chip}
 use Rattle.chip.specs.declared.wire.Event.{Event}
@@ -31,9 +32,8 @@ unfoldable pub noteOf : Event → World → ℕ
 noteOf e w = next e (w .chip) (w .array) .note
 
 -- one after the other
-unfoldable pub ran : List Event → World → World
-ran [] w = w
-ran (e ∷ es) w = ran es (step e w)
+abbrev pub ran : List Event → World → World
+ran es w = stepped step es w
 
 -- event by event
 unfoldable pub lines : List Event → World → List Bool

@@ -1,12 +1,11 @@
--- Transfers: what a START, a clock rise and a clock fall do to a chip that is not busy. (The paper, "Transfers".)
+-- Transfers: what a START, a clock rise and a clock fall do to a chip that is not busy. (RULES T1-T23.)
 --
 -- | Name | Meaning |
 -- |---|---|
 -- | `moved c note`, `quiet c` | the next chip with its note; with note 0 |
--- | `withTransfer`, `atPhase`, `emptyAt` | the chip at another phase, with counter, mark and load; alone; with its load dropped |
+-- | `atPhase`, `emptyAt` | the chip in another phase, alone or with its load dropped |
 -- | `dropNote` | note 7 where a load of a byte or more is dropped |
 -- | `started` | after a START |
--- | `rose` | after a clock rise |
 -- | `addressed`, `slaveTaken` | a slave byte is this chip's; what it leads to |
 -- | `addressTaken` | what the second address byte leads to |
 -- | `arrayData`, `registerData` | what a data byte does, without the mark and with it |
@@ -18,12 +17,12 @@ use mathlib.Core.List.{List}
 use lib.Dec.{eqb}
 use lib.ListN.{getD}
 use Rattle.parts.specs.Load.{noLoad, loaded}
-use Rattle.parts.specs.Phase.{risen}
 use Rattle.parts.specs.Register.{registerByte}
 use Rattle.parts.specs.Sector.{nextPlace, nextAddress}
-use Rattle.parts.specs.declared.load.Load.{Load}
 use Rattle.parts.specs.declared.phase.Phase.{Phase}
 use Rattle.parts.specs.declared.phase.Phase.the-variants.{Standby, Slave, First, Second, Data, AckWrite, AckRead, AckFirst, AckByte, Sending, Waiting, Next}
+use Rattle.chip.specs.Chip.{withTransfer}
+use Rattle.chip.specs.Part.{selects, marked, enabled}
 use Rattle.chip.specs.declared.chip.Chip.{Chip}
 use Rattle.chip.specs.declared.chip.Moved.{Moved}
 
@@ -34,22 +33,6 @@ moved c note = record { chip = c; note = note }
 abbrev pub quiet : Chip → Moved
 quiet c = moved c 0
 
--- what a transfer changes: phase, counter, mark and load
-abbrev pub withTransfer : Chip → Phase → ℕ → Bool → Load → Chip
-withTransfer c phase counter mark load =
-    record {
-      part = c .part;
-      select = c .select;
-      register = c .register;
-      counter = counter;
-      mark = mark;
-      busy = c .busy;
-      scl = c .scl;
-      line = c .line;
-      phase = phase;
-      load = load;
-    }
-
 -- the phase alone
 abbrev pub atPhase : Chip → Phase → Chip
 atPhase c phase = withTransfer c phase (c .counter) (c .mark) (c .load)
@@ -58,70 +41,66 @@ atPhase c phase = withTransfer c phase (c .counter) (c .mark) (c .load)
 abbrev pub emptyAt : Chip → Phase → Chip
 emptyAt c phase = withTransfer c phase (c .counter) (c .mark) noLoad
 
--- note 7 speaks of a load of one byte or more
+-- N7: it speaks of a load of one byte or more
 abbrev pub dropNote : Chip → ℕ
 dropNote c = cond (eqb (c .load .count) 0) 0 7
 
--- the load is dropped and a slave byte comes
+-- T1: the load is dropped and a slave byte comes
 abbrev pub started : Chip → Moved
 started c = moved (emptyAt c (Slave 0 0)) (dropNote c)
 
--- the bit is the line's level in the sample
-abbrev pub rose : Chip → Bool → Chip
-rose c line = atPhase c (risen (c .phase) line)
-
--- bits 7-4 are 1010 and bits 3-1 the select (house)
+-- T5: bits 7-4 are 1010 and bits 3-1 the select (house)
 abbrev pub addressed : ℕ → ℕ → Bool
 addressed select byte = eqb (byte / 16) 0b1010 && eqb (byte / 2 % 8) select
 
--- bit 0 is R/W; a byte for another chip is not acknowledged and leads to standby
+-- T6, T7: bit 0 is R/W; a byte for another chip is not acknowledged and leads to standby
 unfoldable pub slaveTaken : Chip → ℕ → Chip
 slaveTaken c byte = atPhase c (cond (addressed (c .select) byte) (cond (eqb (byte % 2) 0) AckWrite AckRead) Standby)
 
--- FFFFh marks the register and leaves the counter; any other address is cut to 14 bits (house) and clears the mark
+-- T10, T11: FFFFh marks the register and leaves the counter; any other address is cut to 14 bits (house) and clears the mark
 unfoldable pub addressTaken : Chip → ℕ → Chip
 addressTaken c address =
-    cond (eqb address 0xffff)
+    cond (selects (c .part) address)
     (withTransfer c AckByte (c .counter) true (c .load))
     (withTransfer c AckByte (address % 0x4000) false (c .load))
 
--- refused while PEL is clear; else it joins the load and the counter goes on within its sector
+-- T12-T14: refused while PEL is clear; else it joins the load and the counter goes on within its sector
 unfoldable pub arrayData : Chip → ℕ → Moved
 arrayData c byte =
     quiet
-    (cond (c .register .pel)
+    (cond (enabled (c .part) (c .register .pel))
     (withTransfer c AckByte (nextPlace (c .counter)) (c .mark) (loaded (c .load) (c .counter) byte))
     (atPhase c Standby))
 
--- one register byte is kept; a second drops it with note 7 (house)
+-- T15, T16: one register byte is kept; a second drops it with note 7 (house)
 unfoldable pub registerData : Chip → ℕ → Moved
 registerData c byte =
     cond (eqb (c .load .count) 0)
     (quiet (withTransfer c AckByte (c .counter) (c .mark) (loaded (c .load) 0 byte)))
     (moved (emptyAt c Standby) 7)
 
--- the array's byte at the counter; with the mark the register
+-- T17: the array's byte at the counter; with the mark the register
 abbrev pub nextByte : Chip → List ℕ → ℕ
-nextByte c xs = cond (c .mark) (registerByte (c .register)) (getD xs (c .counter) 0)
+nextByte c xs = cond (marked (c .part) (c .mark)) (registerByte (c .register)) (getD xs (c .counter) 0)
 
 -- its bit 7 is sent first
 unfoldable pub byteBegun : Chip → List ℕ → Chip
 byteBegun c xs = atPhase c (Sending 7 (nextByte c xs))
 
--- the chip lets go and the counter rises; the register is sent once, and then counter and mark are cleared
+-- T19, T22: the chip lets go and the counter rises; the register is sent once, and then counter and mark are cleared
 unfoldable pub byteEnded : Chip → Chip
 byteEnded c =
-    cond (c .mark)
+    cond (marked (c .part) (c .mark))
     (withTransfer c Standby 0x0000 false (c .load))
     (withTransfer c Waiting (nextAddress (c .counter)) (c .mark) (c .load))
 
--- a byte is taken when its eight bits are there; an acknowledge ends; a byte is sent bit by bit; elsewhere nothing (house)
+-- T3-T20: a byte is taken when its eight bits are there; an acknowledge ends; a byte is sent bit by bit; elsewhere nothing (house)
 unfoldable pub fallIn : Phase → Chip → List ℕ → Moved
 fallIn Standby c xs = quiet c
 fallIn (Slave bits got) c xs = quiet (cond (eqb bits 8) (slaveTaken c got) c)
 fallIn (First bits got) c xs = quiet (cond (eqb bits 8) (atPhase c (AckFirst got)) c)
 fallIn (Second high bits got) c xs = quiet (cond (eqb bits 8) (addressTaken c (high * 256 + got)) c)
-fallIn (Data bits got) c xs = cond (eqb bits 8) (cond (c .mark) (registerData c got) (arrayData c got)) (quiet c)
+fallIn (Data bits got) c xs = cond (eqb bits 8) (cond (marked (c .part) (c .mark)) (registerData c got) (arrayData c got)) (quiet c)
 fallIn AckWrite c xs = quiet (atPhase c (First 0 0))
 fallIn AckRead c xs = quiet (byteBegun c xs)
 fallIn (AckFirst high) c xs = quiet (atPhase c (Second high 0 0))

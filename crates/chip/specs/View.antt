@@ -1,26 +1,35 @@
--- What one event can do to register and array, and what a row of events leaves of a guarded chip.
---     pinHigh, pinsHigh       the protect pin high in an event, and in each of a row
---     effectOf                an event's effect: nothing, a register change or a store
---     effectNote              the note of an effect
---     effectRegister          the register after an effect
---     Did, DidBy              the view of an event: nothing, a power-up's clearing, a register change or a store, each with its facts
---     Guarded, GuardedBy      part, select, PPEN, BL and the locked bytes are as before
---     Touched                 what an event that changed a byte says of it
-use Prim.Native.Nat.{ℕ, _%_}
-use mathlib.Core.Bool.{Bool, true, false, cond, _&&_}
+-- What one event can do to register, busy flag and array, and what a row of events leaves of a guarded chip.
+--
+-- | Name | Meaning |
+-- |---|---|
+-- | `pinHigh`, `pinsHigh` | the protect pin high in an event, and in each of a row |
+-- | `isStop`, `stops e c` | the edge is a STOP; the chip sees one in this event |
+-- | `mute` | a note that says nothing of a write: 0, 4, 5, 7 |
+-- | `Stopped` | an idle chip that sees a rightly placed STOP with a load |
+-- | `Storable` | a load that such a STOP stores |
+-- | `Kept`, `Done`, `Cleared`, `Changed`, `Stored` | what an event did, by what it left |
+-- | `Did`, `DidBy` | the view of an event: one of the five |
+-- | `Untouched` | no byte written, the register and the busy flag as they were |
+-- | `Told` | what each note says |
+-- | `Guarded`, `GuardedBy` | part, select, PPEN, BL and the locked bytes are as before |
+-- | `Touched` | what an event that changed a byte says of it |
+use Prim.Native.Nat.{ℕ, _%_, _≤_}
+use mathlib.Core.Bool.{Bool, true, false, _||_}
 use mathlib.Core.Path.{_≡_}
-use mathlib.Core.List.{List, [], _∷_}
+use mathlib.Core.List.{List}
+use lib.Dec.{eqb}
 use lib.ListN.{getD}
 use Rattle.parts.specs.Load.{stored}
+use Rattle.parts.specs.Locks.{locked}
 use Rattle.parts.specs.Register.{written, outcome, withPel, withRpel}
+use Rattle.parts.specs.Rows.{every}
 use Rattle.parts.specs.Sector.{sectorStart}
 use Rattle.parts.specs.declared.register.Register.{Register}
 use Rattle.chip.specs.Event.{next, nextArray, edgeIn}
+use Rattle.chip.specs.Part.{marked, partial}
 use Rattle.chip.specs.Run.{World}
-use Rattle.chip.specs.Stop.{stopEffect, rightly, locked}
+use Rattle.chip.specs.Stop.{rightly}
 use Rattle.chip.specs.declared.chip.Chip.{Chip}
-use Rattle.chip.specs.declared.chip.Effect.{Effect}
-use Rattle.chip.specs.declared.chip.Effect.the-variants.{Nothing, Change, Store}
 use Rattle.chip.specs.declared.wire.Edge.{Edge}
 use Rattle.chip.specs.declared.wire.Edge.the-variants.{Quiet, Start, Stop, Rise, Fall}
 use Rattle.chip.specs.declared.wire.Event.{Event}
@@ -32,85 +41,104 @@ pinHigh (Sample s) = s .pin
 pinHigh ProgramDone = true
 pinHigh PowerUp = true
 
--- a test that every event of a row passes
-unfoldable pub every : (Event → Bool) → List Event → Bool
-every test [] = true
-every test (e ∷ es) = test e && every test es
-
 -- the pin high in every sample of a row
 abbrev pub pinsHigh : List Event → Bool
 pinsHigh es = every pinHigh es
 
--- what an edge does to register and array: a stop has an effect, any other edge none but its note
-unfoldable pub edgeEffect : Edge → Chip → Bool → ℕ → Effect
-edgeEffect Quiet c pin note = Nothing note
-edgeEffect Start c pin note = Nothing note
-edgeEffect Stop c pin note = stopEffect c pin
-edgeEffect Rise c pin note = Nothing note
-edgeEffect Fall c pin note = Nothing note
+-- one of the five edges
+unfoldable pub isStop : Edge → Bool
+isStop Quiet = false
+isStop Start = false
+isStop Stop = true
+isStop Rise = false
+isStop Fall = false
 
--- what an event does to register and array; a power-up clears PEL and RPEL besides
-unfoldable pub effectOf : Event → Chip → List ℕ → Effect
-effectOf (Sample s) c xs = cond (c .busy) (Nothing 0) (edgeEffect (edgeIn c s) c (s .pin) (next (Sample s) c xs .note))
-effectOf ProgramDone c xs = Nothing 0
-effectOf PowerUp c xs = Nothing 0
+-- a sample alone can be one
+unfoldable pub stops : Event → Chip → Bool
+stops (Sample s) c = isStop (edgeIn c s)
+stops ProgramDone c = false
+stops PowerUp c = false
 
--- the note of an effect
-unfoldable pub effectNote : Effect → ℕ
-effectNote (Nothing note) = note
-effectNote (Change w) = w .note
-effectNote (Store note) = note
+-- 6 belongs to a register byte; 1, 2 and 3 say that something was written
+unfoldable pub mute : ℕ → Bool
+mute note = eqb note 0 || eqb note 4 || eqb note 5 || eqb note 7
 
--- the register after an effect: a change gives its own, a store clears RPEL
-unfoldable pub effectRegister : Effect → Register → Register
-effectRegister (Nothing note) r = r
-effectRegister (Change w) r = w .register
-effectRegister (Store note) r = withRpel r false
+-- where alone something can be written
+pub record Stopped (e : Event) (c : Chip) : Type 0 where
+  pub idle : c .busy ≡ false
+  pub stop : stops e c ≡ true
+  pub right : rightly (c .phase) ≡ true
+  pub some : c .load .count ≡ 0 → ⊥
 
--- What one event did, by what it left: the register, busy, the note and the array. First, no byte is written and the register stays
-pub record Kept (c : Chip) (xs : List ℕ) (after : Register) (ys : List ℕ) : Type 0 where
+-- no register byte, no partial load, no lock
+pub record Storable (c : Chip) (pin : Bool) : Type 0 where
+  pub unmarked : marked (c .part) (c .mark) ≡ false
+  pub whole : partial (c .part) (c .load .count) ≡ false
+  pub unlocked : locked (c .part) (c .register .bl) pin (sectorStart (c .counter)) ≡ false
+
+-- Most events write nothing: register and busy flag stay, and the note says so
+pub record Kept (c : Chip) (xs : List ℕ) (after : Register) (busy : Bool) (note : ℕ) (ys : List ℕ) : Type 0 where
   pub array : ys ≡ xs
   pub register : after ≡ c .register
+  pub same : busy ≡ c .busy
+  pub silent : mute note ≡ true
 
--- a power-up: no byte is written, PEL and RPEL are cleared, PPEN and BL stay
-pub record Cleared (c : Chip) (xs : List ℕ) (after : Register) (note : ℕ) (ys : List ℕ) : Type 0 where
+-- a program-done ends busy alone
+pub record Done (e : Event) (c : Chip) (xs : List ℕ) (after : Register) (busy : Bool) (note : ℕ) (ys : List ℕ) : Type 0 where
+  pub event : e ≡ ProgramDone
+  pub array : ys ≡ xs
+  pub register : after ≡ c .register
+  pub ended : busy ≡ false
+  pub silent : note ≡ 0
+
+-- a power-up clears PEL and RPEL and ends busy; PPEN and BL stay
+pub record Cleared (e : Event) (c : Chip) (xs : List ℕ) (after : Register) (busy : Bool) (note : ℕ) (ys : List ℕ) : Type 0 where
+  pub event : e ≡ PowerUp
   pub array : ys ≡ xs
   pub register : after ≡ withPel (withRpel (c .register) false) false
+  pub ended : busy ≡ false
   pub silent : note ≡ 0
 
 -- a register byte: the load's place 0 is written to the register with the pin of this sample, and no byte of the array is
-pub record Changed (pin : Bool) (c : Chip) (xs : List ℕ) (after : Register) (busy : Bool) (note : ℕ) (ys : List ℕ) : Type 0 where
-  pub idle : c .busy ≡ false
-  pub right : rightly (c .phase) ≡ true
-  pub some : c .load .count ≡ 0 → ⊥
-  pub marked : c .mark ≡ true
+pub record Changed (e : Event) (c : Chip) (xs : List ℕ) (after : Register) (busy : Bool) (note : ℕ) (ys : List ℕ) : Type 0 where
+  pub stopped : Stopped e c
+  pub marks : marked (c .part) (c .mark) ≡ true
   pub array : ys ≡ xs
-  pub wrote : outcome after busy note ≡ written (c .register) (getD (c .load .bytes) 0 0) pin
+  pub wrote : outcome after busy note ≡ written (c .register) (getD (c .load .bytes) 0 0) (pinHigh e)
 
 -- a store: the loaded places of the counter's sector take their bytes, which no lock forbids, and a cycle begins with note 1
-pub record Stored (pin : Bool) (c : Chip) (xs : List ℕ) (after : Register) (busy : Bool) (note : ℕ) (ys : List ℕ) : Type 0 where
-  pub idle : c .busy ≡ false
-  pub right : rightly (c .phase) ≡ true
-  pub some : c .load .count ≡ 0 → ⊥
-  pub unmarked : c .mark ≡ false
-  pub whole : c .part ≡ 1 → c .load .count ≡ 32
-  pub unlocked : locked c pin (sectorStart (c .counter)) ≡ false
+pub record Stored (e : Event) (c : Chip) (xs : List ℕ) (after : Register) (busy : Bool) (note : ℕ) (ys : List ℕ) : Type 0 where
+  pub stopped : Stopped e c
+  pub storable : Storable c (pinHigh e)
   pub array : ys ≡ stored xs (sectorStart (c .counter)) (c .load)
   pub register : after ≡ withRpel (c .register) false
   pub began : busy ≡ true
   pub said : note ≡ 1
 
 -- nothing else is ever written
-pub data Did (pin : Bool) (c : Chip) (xs : List ℕ) (after : Register) (busy : Bool) (note : ℕ) (ys : List ℕ) : Type 0 where
-  nothing : Kept c xs after ys → Did pin c xs after busy note ys
-  clear : Cleared c xs after note ys → Did pin c xs after busy note ys
-  change : Changed pin c xs after busy note ys → Did pin c xs after busy note ys
-  store : Stored pin c xs after busy note ys → Did pin c xs after busy note ys
+pub data Did (e : Event) (c : Chip) (xs : List ℕ) (after : Register) (busy : Bool) (note : ℕ) (ys : List ℕ) : Type 0 where
+  nothing : Kept c xs after busy note ys → Did e c xs after busy note ys
+  done : Done e c xs after busy note ys → Did e c xs after busy note ys
+  clear : Cleared e c xs after busy note ys → Did e c xs after busy note ys
+  change : Changed e c xs after busy note ys → Did e c xs after busy note ys
+  store : Stored e c xs after busy note ys → Did e c xs after busy note ys
 
 -- what this event did to this chip and array
 abbrev pub DidBy : Event → Chip → List ℕ → Type 0
-DidBy e c xs =
-    Did (pinHigh e) c xs (next e c xs .chip .register) (next e c xs .chip .busy) (next e c xs .note) (nextArray e c xs)
+DidBy e c xs = Did e c xs (next e c xs .chip .register) (next e c xs .chip .busy) (next e c xs .note) (nextArray e c xs)
+
+-- nothing but the transfer went on
+pub record Untouched (c : Chip) (xs : List ℕ) (after : Register) (busy : Bool) (ys : List ℕ) : Type 0 where
+  pub array : ys ≡ xs
+  pub register : after ≡ c .register
+  pub same : busy ≡ c .busy
+
+-- What each note says: 1 a store, 2 PPEN and BL written by a cycle, 3 a latch written, 4 to 7 that nothing was
+pub record Told (e : Event) (c : Chip) (xs : List ℕ) (after : Register) (busy : Bool) (note : ℕ) (ys : List ℕ) : Type 0 where
+  pub one : note ≡ 1 → Stored e c xs after busy note ys
+  pub two : note ≡ 2 → Changed e c xs after busy note ys × (after .rpel ≡ false) × (busy ≡ true)
+  pub three : note ≡ 3 → Changed e c xs after busy note ys × (after .ppen ≡ c .register .ppen) × (after .bl ≡ c .register .bl) × (busy ≡ false)
+  pub more : 4 ≤ note → Untouched c xs after busy ys
 
 -- What a row of events with the pin high leaves of a chip with PPEN set: part, select, PPEN, BL and every locked byte
 pub record Guarded (before : World) (part′ select′ : ℕ) (after : Register) (ys : List ℕ) : Type 0 where
@@ -118,7 +146,7 @@ pub record Guarded (before : World) (part′ select′ : ℕ) (after : Register)
   pub select : select′ ≡ before .chip .select
   pub ppen : after .ppen ≡ true
   pub bl : after .bl ≡ before .chip .register .bl
-  pub bytes : (a : ℕ) → locked (before .chip) true a ≡ true → getD ys a 0 ≡ getD (before .array) a 0
+  pub bytes : (a : ℕ) → locked (before .chip .part) (before .chip .register .bl) true a ≡ true → getD ys a 0 ≡ getD (before .array) a 0
 
 -- a world is guarded since another
 abbrev pub GuardedBy : World → World → Type 0

@@ -1,4 +1,4 @@
--- The line, and the edge that a sample makes of it. (The paper, "Samples and edges".)
+-- The line, and the edge that a sample makes of it. (RULES L2, L4, L5.)
 --
 -- | Name | Meaning |
 -- |---|---|

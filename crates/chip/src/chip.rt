@@ -1,6 +1,7 @@
 // The chip: what it carries, how it is made, and whether it pulls. Every method answers for every chip, in range or not.
 ghost use mathlib.Core.Path.{_≡_};
 ghost use Rattle.chip.specs.Chip.{chipFits, pulls, atPowerUp, standardChip, made};
+ghost use Rattle.chip.specs.Part.{marked, enabled};
 ghost use Rattle.chip.specs.Transfer.{atPhase, emptyAt, dropNote, quiet};
 use parts::load::Load;
 use parts::phase::Phase;
@@ -123,6 +124,20 @@ impl Chip {
         !self.busy & pulled
     }
 
+    // Whether the register is selected, and not the array.
+    pub(crate) fn marked(self) -> bool
+        ensures { λ r. ⌜ r ≡ marked (self .part) (self .mark) ⌝ }
+    {
+        self.mark
+    }
+
+    // Whether data for the array is taken.
+    pub(crate) fn enabled(self) -> bool
+        ensures { λ r. ⌜ r ≡ enabled (self .part) (self .register .pel) ⌝ }
+    {
+        self.register.pel
+    }
+
     // Note 7 where a load is dropped, else 0.
     pub(crate) fn drop_note(self) -> u8
         ensures { λ r. ⌜ r ≡ dropNote self ⌝ }
@@ -131,7 +146,7 @@ impl Chip {
         if load.count == 0 { 0 } else { 7 }
     }
 
-    // The chip at another phase.
+    // The chip in another phase.
     pub(crate) fn at(self, phase: Phase) -> Chip
         ensures { λ r. ⌜ r ≡ atPhase self phase ⌝ }
     {
@@ -141,7 +156,7 @@ impl Chip {
         }
     }
 
-    // The chip at another phase with its load dropped.
+    // The chip in another phase with its load dropped.
     pub(crate) fn empty_at(self, phase: Phase) -> Chip
         ensures { λ r. ⌜ r ≡ emptyAt self phase ⌝ }
     {

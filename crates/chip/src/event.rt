@@ -1,6 +1,6 @@
 // One event: the edge of a sample and what it does, program-done, power-up, and the refusals before them.
 ghost use mathlib.Core.Path.{_≡_};
-ghost use Rattle.chip.specs.Event.{refusal, eventAnswer, eventArray, reacted, reactedArray, sampled, sampledArray, next, nextArray, settled};
+ghost use Rattle.chip.specs.Event.{refusal, eventAnswer, eventArray, reacted, reactedArray, judged, judgedArray, sampled, sampledArray, next, nextArray, settled};
 use crate::chip::Chip;
 use crate::chip::Moved;
 use crate::chip::quietly;
@@ -19,15 +19,14 @@ pub struct Answer {
 }
 
 impl Moved {
-    // The same with the sample's clock, and the line that the chip leaves.
-    fn settled(self, sample: Sample) -> Moved
-        ensures { λ r. ⌜ r ≡ settled self sample ⌝ }
+    // The same with these last levels.
+    fn settled(self, scl: bool, line: bool) -> Moved
+        ensures { λ r. ⌜ r ≡ settled self scl line ⌝ }
     {
         let chip = self.chip;
-        let line = line_of(chip.pulls(), sample.sda);
         Moved {
             chip: Chip {
-                scl: sample.scl,
+                scl: scl,
                 line: line,
                 ..chip
             },
@@ -38,7 +37,7 @@ impl Moved {
 
 impl Chip {
     // What an edge does, with the line and the pin of its sample.
-    pub(crate) fn react(self, array: &mut [u8], edge: Edge, line: bool, pin: bool) -> Moved
+    fn react(self, array: &mut [u8], edge: Edge, line: bool, pin: bool) -> Moved
         ensures { λ r. ⌜ (r ≡ reacted edge self line pin (now (array .entry))) × (now (array .exit) ≡ reactedArray edge self pin (now (array .entry))) ⌝ }
     {
         match edge {
@@ -50,17 +49,27 @@ impl Chip {
         }
     }
 
-    // A sample: a busy chip tracks the levels alone, another reacts to the edge.
-    pub(crate) fn sample(self, array: &mut [u8], sample: Sample) -> Moved
-        ensures { λ r. ⌜ (r ≡ sampled self (now (array .entry)) sample) × (now (array .exit) ≡ sampledArray self (now (array .entry)) sample) ⌝ }
+    // A sample with this line: a busy chip ignores its edge, another reacts to it.
+    fn judge(self, array: &mut [u8], scl: bool, line: bool, pin: bool) -> Moved
+        ensures { λ r. ⌜ (r ≡ judged self (now (array .entry)) scl line pin) × (now (array .exit) ≡ judgedArray self (now (array .entry)) scl line pin) ⌝ }
     {
         let busy = self.busy;
         if busy {
-            return quietly(self).settled(sample);
+            return quietly(self);
         }
+        let edge = edge_of(self.scl, scl, self.line, line);
+        self.react(array, edge, line, pin)
+    }
+
+    // A sample on wires of its own: judged with the pull before it, the line that is kept has the pull after it.
+    fn sample(self, array: &mut [u8], sample: Sample) -> Moved
+        ensures { λ r. ⌜ (r ≡ sampled self (now (array .entry)) sample) × (now (array .exit) ≡ sampledArray self (now (array .entry)) sample) ⌝ }
+    {
         let line = line_of(self.pulls(), sample.sda);
-        let edge = edge_of(self.scl, sample.scl, self.line, line);
-        self.react(array, edge, line, sample.pin).settled(sample)
+        let moved = self.judge(array, sample.scl, line, sample.pin);
+        let chip = moved.chip;
+        let after = line_of(chip.pulls(), sample.sda);
+        moved.settled(sample.scl, after)
     }
 
     // One event: the next chip and its note. The line is the one that the next chip keeps.
@@ -86,7 +95,7 @@ impl Chip {
     pub fn refusal(self, array: &[u8]) -> u8
         ensures { λ r. ⌜ r ≡ refusal self (now (array .entry)) ⌝ }
     {
-        if array.len() == 16384 {
+        if array.len() == Chip::BYTES {
             if self.fits() {
                 return 0;
             }

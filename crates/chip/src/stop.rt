@@ -1,11 +1,12 @@
 // What a stop does: nothing, a register byte written, or a load stored in its sector.
 ghost use mathlib.Core.Path.{_≡_};
-ghost use Rattle.chip.specs.Stop.{locked, rightly, arrayEffect, rightEffect, stopEffect, effectMoved, effectArray};
+ghost use Rattle.chip.specs.Part.{partial};
+ghost use Rattle.chip.specs.Stop.{rightly, arrayEffect, rightEffect, stopEffect, effectMoved, effectArray};
 use crate::chip::Chip;
 use crate::chip::Effect;
 use crate::chip::Moved;
 use parts::load::Load;
-use parts::locks::first_locked;
+use parts::locks::is_locked;
 use parts::phase::Phase;
 use parts::register::Register;
 use parts::sector::sector_start;
@@ -35,25 +36,23 @@ fn rightly_placed(phase: Phase) -> bool
 }
 
 impl Chip {
-    // Whether an address is locked. No part of today asks the pin.
-    pub(crate) fn locks(self, pin: bool, address: u16) -> bool
-        ensures { λ r. ⌜ r ≡ locked self pin address ⌝ }
+    // Whether a load of this many bytes is one that the part does not store.
+    fn partial(self) -> bool
+        ensures { λ r. ⌜ r ≡ partial (self .part) (self .load .count) ⌝ }
     {
-        let first = first_locked(self.part, self.register.bl);
-        first <= address
+        let load = self.load;
+        (self.part == 1) & !(load.count == 32)
     }
 
     // What an array load does at a rightly placed stop.
     fn array_effect(self, pin: bool) -> Effect
         ensures { λ r. ⌜ r ≡ arrayEffect self pin ⌝ }
     {
-        let load = self.load;
-        let short = (self.part == 1) & !(load.count == 32);
-        if short {
+        if self.partial() {
             return Effect::Nothing { note: 5 };
         }
         let start = sector_start(self.counter);
-        if self.locks(pin, start) {
+        if is_locked(self.part, self.register.bl, pin, start) {
             return Effect::Nothing { note: 4 };
         }
         Effect::Store { note: 1 }
@@ -67,8 +66,7 @@ impl Chip {
         if load.count == 0 {
             return Effect::Nothing { note: 0 };
         }
-        let mark = self.mark;
-        if mark {
+        if self.marked() {
             let register = self.register;
             let byte = load.bytes[0];
             return Effect::Change(register.written(byte, pin));

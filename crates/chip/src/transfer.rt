@@ -1,7 +1,8 @@
 // Transfers: what a start, a clock rise and a clock fall do in each phase.
 ghost use mathlib.Core.Path.{_≡_};
 ghost use Prim.Native.Nat.{_+_, _*_};
-ghost use Rattle.chip.specs.Transfer.{nextByte, slaveTaken, addressTaken, registerData, arrayData, byteBegun, byteEnded, started, rose, fell};
+ghost use Rattle.parts.specs.Phase.{risen};
+ghost use Rattle.chip.specs.Transfer.{nextByte, slaveTaken, addressTaken, registerData, arrayData, byteBegun, byteEnded, started, atPhase, fell};
 use crate::chip::Chip;
 use crate::chip::Moved;
 use crate::chip::quietly;
@@ -23,7 +24,7 @@ impl Chip {
 
     // A clock rise: the bit on the line is taken.
     pub(crate) fn rise(self, line: bool) -> Chip
-        ensures { λ r. ⌜ r ≡ rose self line ⌝ }
+        ensures { λ r. ⌜ r ≡ atPhase self (risen (self .phase) line) ⌝ }
     {
         let phase = self.phase;
         self.at(phase.risen(line))
@@ -33,7 +34,7 @@ impl Chip {
     fn take_slave(self, byte: u8) -> Chip
         ensures { λ r. ⌜ r ≡ slaveTaken self byte ⌝ }
     {
-        let ours = (byte / 16 == 10) & (byte / 2 % 8 == self.select);
+        let ours = (byte / 16 == 0b1010) & (byte / 2 % 8 == self.select);
         if ours {
             if byte % 2 == 0 {
                 return self.at(Phase::AckWrite);
@@ -48,7 +49,7 @@ impl Chip {
         ensures { λ r. ⌜ r ≡ addressTaken self (high * 256 + low) ⌝ }
     {
         let address = high as u16 * 256 + low as u16;
-        if address == 65535 {
+        if address == 0xffff {
             return Chip {
                 phase: Phase::AckByte,
                 mark: true,
@@ -57,7 +58,7 @@ impl Chip {
         }
         Chip {
             phase: Phase::AckByte,
-            counter: address % 16384,
+            counter: address % 0x4000,
             mark: false,
             ..self
         }
@@ -89,8 +90,7 @@ impl Chip {
     fn take_data(self, byte: u8) -> Moved
         ensures { λ r. ⌜ r ≡ arrayData self byte ⌝ }
     {
-        let pel = self.register.pel;
-        if pel {
+        if self.enabled() {
             let load = self.load;
             let more = load.with(self.counter, byte);
             let place = next_place(self.counter);
@@ -114,8 +114,7 @@ impl Chip {
     fn next_byte(self, array: &[u8]) -> u8
         ensures { λ r. ⌜ r ≡ nextByte self (now (array .entry)) ⌝ }
     {
-        let mark = self.mark;
-        if mark {
+        if self.marked() {
             let register = self.register;
             return register.byte();
         }
@@ -138,8 +137,7 @@ impl Chip {
     fn end_byte(self) -> Chip
         ensures { λ r. ⌜ r ≡ byteEnded self ⌝ }
     {
-        let mark = self.mark;
-        if mark {
+        if self.marked() {
             return Chip {
                 phase: Phase::Standby,
                 counter: 0,
@@ -185,8 +183,7 @@ impl Chip {
             }
             Phase::Data { bits, got } => {
                 if bits == 8 {
-                    let mark = self.mark;
-                    if mark {
+                    if self.marked() {
                         self.take_register(got)
                     } else {
                         self.take_data(got)

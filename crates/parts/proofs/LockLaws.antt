@@ -9,7 +9,7 @@ use native.Mathlib.Omega.{arith}
 use borrow.Author.Tests.{leb-true, leb-false, le-leb, lt-leb}
 use lib.Dec.{leb}
 use lib.ListN.{length, getD, List·getD-eq-default}
-use Rattle.parts.specs.Locks.{firstLocked, lockTable}
+use Rattle.parts.specs.Locks.{firstLocked, lockTable, locked}
 use Rattle.parts.specs.Sector.{sectorStart}
 use Rattle.parts.proofs.SectorLaws.{start-again}
 
@@ -70,11 +70,11 @@ leb-same first a b there back = go (leb first a) refl
     go false e = sym (lt-leb first b (lt-of-not-le (λ h. not-le-of-lt (leb-false first a e) (back h))))
 
 -- a locked sector is locked whole: of two addresses of one sector both are locked, or neither
-pub locked-whole : (part bl a b : ℕ) → sectorStart a ≡ sectorStart b → leb (firstLocked part bl) a ≡ leb (firstLocked part bl) b
-locked-whole part bl a b same =
+pub locked-whole : (part bl : ℕ) (pin : Bool) (a b : ℕ) → sectorStart a ≡ sectorStart b → locked part bl pin a ≡ locked part bl pin b
+locked-whole part bl pin a b same =
     let start : firstLocked part bl % 32 ≡ 0 = first-starts part bl in
     leb-same (firstLocked part bl) a b (omega arith) (omega arith)
 
 -- an address is locked where its sector's start is
-pub locked-from-start : (part bl a : ℕ) → leb (firstLocked part bl) (sectorStart a) ≡ leb (firstLocked part bl) a
-locked-from-start part bl a = locked-whole part bl (sectorStart a) a (start-again a)
+pub locked-from-start : (part bl : ℕ) (pin : Bool) (a : ℕ) → locked part bl pin (sectorStart a) ≡ locked part bl pin a
+locked-from-start part bl pin a = locked-whole part bl pin (sectorStart a) a (start-again a)

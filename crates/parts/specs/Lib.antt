@@ -2,4 +2,5 @@ pub mod Load
 pub mod Locks
 pub mod Phase
 pub mod Register
+pub mod Rows
 pub mod Sector

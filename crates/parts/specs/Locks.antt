@@ -1,11 +1,14 @@
--- The first locked address of each part and BL. (The paper, "What a rightly placed STOP does".)
+-- What is locked, said once over part, BL, pin and address. (RULES C12.)
 --
 -- | Name | Meaning |
 -- |---|---|
 -- | `lockTable` | for each part, then for BL 0 to 3, the first locked address, 4000h where there is none |
 -- | `firstLocked part bl` | its entry; 4000h for a part or a BL that it does not have |
+-- | `locked part bl pin a` | the address is locked, with the protect pin at this level |
 use Prim.Native.Nat.{ℕ}
+use mathlib.Core.Bool.{Bool}
 use mathlib.Core.List.{List, [], _∷_}
+use lib.Dec.{leb}
 use lib.ListN.{getD}
 
 -- the X24128, then the X24F128
@@ -15,6 +18,10 @@ lockTable =
     ∷ (0x4000 ∷ 0x3000 ∷ 0x2000 ∷ 0x0000 ∷ [])
     ∷ []
 
--- every address from it on is locked
+-- where the lock begins
 unfoldable pub firstLocked : ℕ → ℕ → ℕ
 firstLocked part bl = getD (getD lockTable part []) bl 0x4000
+
+-- from the first locked address on; neither part asks the pin
+abbrev pub locked : ℕ → ℕ → Bool → ℕ → Bool
+locked part bl pin address = leb (firstLocked part bl) address

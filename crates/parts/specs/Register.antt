@@ -1,11 +1,10 @@
--- The register: the byte that it reads as, and the ordered rules for a byte written to it.
--- (The paper, "Transfers", read with the mark, and "What a rightly placed STOP does", register byte.)
+-- The register: the byte that it reads as, and the ordered rules for a byte written to it. (RULES T21, S13-S17.)
 --
 -- | Name | Meaning |
 -- |---|---|
 -- | `registerByte` | the byte that a read sends |
 -- | `outcome r busy note` | the outcome of a write: the register after it, whether a cycle begins, the note |
--- | `withPel`, `withRpel` | the register with one bit set or cleared |
+-- | `withPel`, `withRpel`, `withLocks` | the register with one bit set or cleared; with PPEN and BL written |
 -- | `reserved`, `latchWritten`, `lockWritten` | rules 1, 2 and 3 |
 -- | `written r byte pin` | what a byte does, with the protect pin at the stop |
 use Prim.Native.Nat.{ℕ, _+_, _*_, _/_, _%_}
@@ -15,7 +14,7 @@ use Rattle.parts.specs.Phase.{weight, bitOf}
 use Rattle.parts.specs.declared.register.Register.{Register}
 use Rattle.parts.specs.declared.register.Written.{Written}
 
--- from bit 7 down: PPEN, 0, 0, BL1, BL0, RPEL, PEL, 0
+-- from bit 7 down (T21): PPEN, 0, 0, BL1, BL0, RPEL, PEL, 0
 abbrev pub registerByte : Register → ℕ
 registerByte r = weight (r .ppen) 0x80 + r .bl % 4 * 8 + weight (r .rpel) 4 + weight (r .pel) 2
 
@@ -30,11 +29,15 @@ withPel r on = record { ppen = r .ppen; bl = r .bl; rpel = r .rpel; pel = on }
 abbrev pub withRpel : Register → Bool → Register
 withRpel r on = record { ppen = r .ppen; bl = r .bl; rpel = on; pel = r .pel }
 
--- rule 1: a byte with bit 0, 5 or 6 set is refused with note 6
+-- PPEN and BL, which clears RPEL; PEL survives
+abbrev pub withLocks : Register → Bool → ℕ → Register
+withLocks r ppen bl = record { ppen = ppen; bl = bl; rpel = false; pel = r .pel }
+
+-- rule 1 (S13): a byte with bit 0, 5 or 6 set is refused with note 6
 abbrev pub reserved : ℕ → Bool
 reserved byte = bitOf byte 0 || bitOf byte 5 || bitOf byte 6
 
--- rule 2, RPEL clear: 00h and 02h write PEL, 06h sets RPEL where PEL is set; note 3, and 6 for any other byte
+-- rule 2 (S14), RPEL clear: 00h and 02h write PEL, 06h sets RPEL where PEL is set; note 3, and 6 for any other byte
 unfoldable pub latchWritten : Register → ℕ → Written
 latchWritten r byte =
     cond (eqb byte 0x00) (outcome (withPel r false) false 3)
@@ -42,12 +45,12 @@ latchWritten r byte =
     (cond (eqb byte 0x06 && r .pel) (outcome (withRpel r true) false 3)
     (outcome r false 6)))
 
--- rule 3, RPEL set: low bits other than 010, or PPEN set and the pin high, are note 6; else PPEN and BL are written, RPEL is cleared
+-- rule 3 (S15, S16), RPEL set: low bits other than 010, or PPEN set and the pin high, are note 6; else PPEN and BL are written, RPEL is cleared
 -- and a cycle begins, note 2
 unfoldable pub lockWritten : Register → ℕ → Bool → Written
 lockWritten r byte pin =
     cond (not (eqb (byte % 8) 0b010) || (r .ppen && pin)) (outcome r false 6)
-    (outcome (record { ppen = bitOf byte 7; bl = byte / 8 % 4; rpel = false; pel = r .pel }) true 2)
+    (outcome (withLocks r (bitOf byte 7) (byte / 8 % 4)) true 2)
 
 -- the rules in their order
 unfoldable pub written : Register → ℕ → Bool → Written

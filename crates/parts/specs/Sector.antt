@@ -1,11 +1,15 @@
--- Addresses and sectors: 16,384 addresses in 512 sectors of 32. (The paper, "Transfers".)
+-- Addresses, sectors and the array: 16,384 addresses in 512 sectors of 32. (RULES C11, T14, T19.)
 --
 -- | Name | Meaning |
 -- |---|---|
 -- | `sectorStart a` | the first address of the sector of a |
 -- | `nextPlace a` | the next place of the same sector, the first after the last |
 -- | `nextAddress a` | the next address, 0000h after 3FFFh |
-use Prim.Native.Nat.{ℕ, _+_, _*_, _/_, _%_}
+-- | `Bytes xs` | a list of bytes |
+-- | `erased` | an array of FFh |
+use Prim.Native.Nat.{ℕ, _+_, _*_, _/_, _%_, _<_}
+use mathlib.Core.List.{List}
+use lib.ListN.{getD, replicate}
 
 -- the address with its low five bits cleared
 abbrev pub sectorStart : ℕ → ℕ
@@ -18,3 +22,11 @@ nextPlace address = address / 32 * 32 + (address + 1) % 32
 -- modulo 16,384
 abbrev pub nextAddress : ℕ → ℕ
 nextAddress address = (address + 1) % 0x4000
+
+-- each below 100h
+abbrev pub Bytes : List ℕ → Type 0
+Bytes xs = (k : ℕ) → getD xs k 0 < 0x100
+
+-- as the chip comes, and as the bench has it
+abbrev pub erased : List ℕ
+erased = replicate 0x4000 0xff

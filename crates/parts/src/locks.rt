@@ -1,6 +1,6 @@
-// The first locked address of each part and BL.
+// What is locked: the table of first locked addresses, and the one question that a stop asks.
 ghost use mathlib.Core.Path.{_≡_};
-ghost use Rattle.parts.specs.Locks.{firstLocked};
+ghost use Rattle.parts.specs.Locks.{firstLocked, locked};
 
 // For each part, then for BL 0 to 3: the first locked address, or 4000h where none is.
 const FIRST_LOCKED: [[u16; 4]; 2] = [
@@ -9,7 +9,7 @@ const FIRST_LOCKED: [[u16; 4]; 2] = [
 ];
 
 // The first locked address of a part at this BL, or 4000h.
-pub fn first_locked(part: u8, bl: u8) -> u16
+fn first_locked(part: u8, bl: u8) -> u16
     ensures { λ r. ⌜ r ≡ firstLocked part bl ⌝ }
 {
     if 1 < part {
@@ -19,4 +19,11 @@ pub fn first_locked(part: u8, bl: u8) -> u16
         return 0x4000;
     }
     FIRST_LOCKED[part as usize][bl as usize]
+}
+
+// Whether an address is locked with the protect pin at this level. Neither part of today asks the pin.
+pub fn is_locked(part: u8, bl: u8, pin: bool, address: u16) -> bool
+    ensures { λ r. ⌜ r ≡ locked part bl pin address ⌝ }
+{
+    first_locked(part, bl) <= address
 }

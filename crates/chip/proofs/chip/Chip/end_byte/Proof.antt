@@ -1,5 +1,6 @@
--- `Chip::end_byte` meets its contract. Assumes nothing.
+-- The register is sent once, the array goes on. Assumes nothing.
 use borrow.Author.Needs.{needs}
+use mathlib.Core.Path.{sym, _∙_}
 use Rattle.chip.specs.Transfer.{byteEnded}
 use Rattle.chip.proofs.chip.Chip.end_byte.Statement.{statement}
 use Rattle.chip.proofs.chip.Chip.end_byte.Tie as tie
@@ -9,6 +10,7 @@ unfolding byteEnded
 end-byte-spec =
     tie.close
     (tie.spec
-    (λ c. simp (c .before .before .if1 .taken))
     (λ c κs. search needs)
-    (λ c. simp (c .before .before .next-address .ensures, c .before .before .before .if1 .left)))
+    (λ c. simp (sym (c .before .before .before .marked .ensures) ∙ c .before .before .if1 .taken))
+    (λ c κs. search needs)
+    (λ c. simp (c .before .before .next-address .ensures, sym (c .before .before .before .before .marked .ensures) ∙ c .before .before .before .if1 .left)))

@@ -1,7 +1,7 @@
--- `Chip::fall` meets its contract. Assumes nothing.
+-- Phase by phase, the arm is the clause of the definition. Assumes nothing.
 use borrow.Author.Needs.{needs}
 use borrow.Author.Tests.{eq-eqb, ne-eqb}
-use mathlib.Core.Path.{sym}
+use mathlib.Core.Path.{sym, _∙_}
 use Rattle.chip.proofs.TransferLaws.{fall-bit}
 use Rattle.chip.specs.Transfer.{fallIn}
 use Rattle.chip.proofs.chip.Chip.fall.Statement.{statement}
@@ -27,6 +27,7 @@ fall-spec =
     (λ c κs. search needs)
     (λ c κs. search needs)
     (λ c. search needs)
+    (λ c κs. search needs)
     (λ c κs. search needs)
     (λ c κs. search needs)
     (λ c κs. search needs)
@@ -60,8 +61,8 @@ fall-spec =
     (λ c. simp (c .quietly5 .ensures, ne-eqb _ _ (c .before .if2 .left), c .before .before .before .phase2 .given .1))
     (λ c. simp (c .quietly6 .ensures, c .before .take-address .ensures, eq-eqb _ _ (c .before .before .if3 .taken), c .before .before .before .before .phase3 .given .1))
     (λ c. simp (c .quietly7 .ensures, ne-eqb _ _ (c .before .if3 .left), c .before .before .before .phase3 .given .1))
-    (λ c. simp (c .take-register .ensures, c .before .if5 .taken, eq-eqb _ _ (c .before .before .if4 .taken), c .before .before .before .before .phase4 .given .1))
-    (λ c. simp (c .take-data .ensures, c .before .if5 .left, eq-eqb _ _ (c .before .before .if4 .taken), c .before .before .before .before .phase4 .given .1))
+    (λ c. simp (c .take-register .ensures, sym (c .before .before .marked .ensures) ∙ c .before .if5 .taken, eq-eqb _ _ (c .before .before .before .if4 .taken), c .before .before .before .before .before .phase4 .given .1))
+    (λ c. simp (c .take-data .ensures, sym (c .before .before .marked .ensures) ∙ c .before .if5 .left, eq-eqb _ _ (c .before .before .before .if4 .taken), c .before .before .before .before .before .phase4 .given .1))
     (λ c. simp (c .quietly8 .ensures, ne-eqb _ _ (c .before .if4 .left), c .before .before .before .phase4 .given .1))
     (λ c. simp (c .quietly9 .ensures, c .before .at2 .ensures, c .before .before .enum-told2 .given .1))
     (λ c. simp (c .quietly10 .ensures, c .before .begin-byte .ensures, c .before .before .enum-told3 .given .1))

@@ -1,6 +1,7 @@
--- `Chip::next_byte` meets its contract. Assumes nothing.
+-- Past the array the definition reads 0 too. Assumes nothing.
 use borrow.Author.Needs.{needs}
 use Prim.Native.Nat.{_≤_}
+use mathlib.Core.Path.{sym, _∙_}
 use denote.Ref.{now}
 use lib.ListN.{length, List·getD-eq-default}
 use Rattle.chip.proofs.chip.Chip.next_byte.Statement.{statement}
@@ -11,9 +12,10 @@ next-byte-spec =
     tie.close
     (tie.spec
     (λ c κs. search needs)
-    (λ c. simp (c .byte .ensures, c .before .before .if1 .taken))
+    (λ c κs. search needs)
+    (λ c. simp (c .byte .ensures, sym (c .before .before .before .marked .ensures) ∙ c .before .before .if1 .taken))
     (λ c. search needs)
     (λ c. search needs)
-    (λ c. simp (c .before .before .before .if1 .left))
-    (λ c. let past : length (now (c .before .before .before .before .args .array)) ≤ c .before .before .before .before .args .self .counter = c .if2 .left in
-    simp (c .before .before .if1 .left, List·getD-eq-default)))
+    (λ c. simp (sym (c .before .before .before .before .marked .ensures) ∙ c .before .before .before .if1 .left))
+    (λ c. let past : length (now (c .before .before .before .before .before .args .array)) ≤ c .before .before .before .before .before .args .self .counter = c .if2 .left in
+    simp (sym (c .before .before .before .marked .ensures) ∙ c .before .before .if1 .left, List·getD-eq-default)))

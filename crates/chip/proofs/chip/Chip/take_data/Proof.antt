@@ -1,5 +1,6 @@
--- `Chip::take_data` meets its contract. Assumes nothing.
+-- Data is taken where the part is enabled. Assumes nothing.
 use borrow.Author.Needs.{needs}
+use mathlib.Core.Path.{sym, _∙_}
 use Rattle.chip.specs.Transfer.{arrayData}
 use Rattle.chip.proofs.chip.Chip.take_data.Statement.{statement}
 use Rattle.chip.proofs.chip.Chip.take_data.Tie as tie
@@ -11,6 +12,7 @@ take-data-spec =
     (tie.spec
     (λ c κs. search needs)
     (λ c κs. search needs)
-    (λ c. simp (c .before .next-place .ensures, c .before .before .with .ensures, c .before .before .before .before .if1 .taken))
     (λ c κs. search needs)
-    (λ c. simp (c .at .ensures, c .before .if1 .left)))
+    (λ c. simp (c .before .next-place .ensures, c .before .before .with .ensures, sym (c .before .before .before .before .before .enabled .ensures) ∙ c .before .before .before .before .if1 .taken))
+    (λ c κs. search needs)
+    (λ c. simp (c .at .ensures, sym (c .before .before .enabled .ensures) ∙ c .before .if1 .left)))

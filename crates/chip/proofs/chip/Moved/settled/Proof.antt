@@ -1,4 +1,4 @@
--- `Moved::settled` meets its contract. Assumes nothing.
+-- The two levels are written and nothing else. Assumes nothing.
 use borrow.Author.Needs.{needs}
 use Rattle.chip.proofs.chip.Moved.settled.Statement.{statement}
 use Rattle.chip.proofs.chip.Moved.settled.Tie as tie
@@ -7,6 +7,4 @@ pub settled-spec : {M : Type 1} → statement M
 settled-spec =
     tie.close
     (tie.spec
-    (λ c κs. search needs)
-    (λ c κs. search needs)
-    (λ c. simp (c .before .before .line-of .ensures, c .before .before .before .pulls .ensures)))
+    (λ c. search needs))
