@@ -1,6 +1,7 @@
 pub mod EventLaws
 pub mod FitLaws
 pub mod LockLaws
+pub mod Posed
 pub mod RangeLaws
 pub mod RunLaws
 pub mod StepLaws

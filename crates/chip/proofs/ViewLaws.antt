@@ -73,8 +73,8 @@ module _ {e : Event} {c : Chip} {xs : List ℕ} {after : Register} {busy : Bool}
         two = λ n. (d, noted .two n .0, noted .two n .1);
         three = λ n. (d, noted .three n .0, noted .three n .1, noted .three n .2);
         more = λ n.
-        let six : note ≡ 6 = noted .only (λ two. omega arith) (λ three. omega arith) in
-        record { array = d .array; register = noted .six six .0; same = noted .six six .1 ∙ sym (d .stopped .idle) };
+            let six : note ≡ 6 = noted .only (λ two. omega arith) (λ three. omega arith) in
+            record { array = d .array; register = noted .six six .0; same = noted .six six .1 ∙ sym (d .stopped .idle) };
       }
   did-told (store d) =
       record { one = λ n. d; two = λ n. absurd (omega (arith, d .said)); three = λ n. absurd (omega (arith, d .said)); more = λ n. absurd (omega (arith, d .said)) }

@@ -13,17 +13,19 @@
 -- | `Told` | what each note says |
 -- | `Guarded`, `GuardedBy` | part, select, PPEN, BL and the locked bytes are as before |
 -- | `Touched` | what an event that changed a byte says of it |
+-- | `SeesStart` | a chip that has just seen a START |
 use Prim.Native.Nat.{ℕ, _%_, _≤_}
 use mathlib.Core.Bool.{Bool, true, false, _||_}
 use mathlib.Core.Path.{_≡_}
 use mathlib.Core.List.{List}
 use lib.Dec.{eqb}
 use lib.ListN.{getD}
-use Rattle.parts.specs.Load.{stored}
+use Rattle.parts.specs.Load.{noLoad, stored}
 use Rattle.parts.specs.Locks.{locked}
 use Rattle.parts.specs.Register.{written, outcome, withPel, withRpel}
 use Rattle.parts.specs.Rows.{every}
 use Rattle.parts.specs.Sector.{sectorStart}
+use Rattle.parts.specs.declared.phase.Phase.the-variants.{Slave}
 use Rattle.parts.specs.declared.register.Register.{Register}
 use Rattle.chip.specs.Event.{next, nextArray, edgeIn}
 use Rattle.chip.specs.Part.{marked, partial}
@@ -158,3 +160,11 @@ pub record Touched (c : Chip) (a : ℕ) (note byte : ℕ) : Type 0 where
   pub here : sectorStart a ≡ sectorStart (c .counter)
   pub loaded : getD (c .load .places) (a % 32) false ≡ true
   pub took : byte ≡ getD (c .load .bytes) (a % 32) 0
+
+-- A chip that has just seen a START: no load, a slave byte to come, the clock still high and the line pulled
+pub record SeesStart (c : Chip) : Type 0 where
+  pub idle : c .busy ≡ false
+  pub phase : c .phase ≡ Slave 0 0
+  pub load : c .load ≡ noLoad
+  pub scl : c .scl ≡ true
+  pub line : c .line ≡ false

@@ -4,9 +4,12 @@
 -- |---|---|
 -- | `lineOf pull sda` | the line's level |
 -- | `edgeOf scl₀ scl line₀ line` | the edge between the last levels and these |
+-- | `sample scl sda pin` | a sample as an event |
 use mathlib.Core.Bool.{Bool, true, false, not, _&&_}
 use Rattle.chip.specs.declared.wire.Edge.{Edge}
 use Rattle.chip.specs.declared.wire.Edge.the-variants.{Quiet, Start, Stop, Rise, Fall}
+use Rattle.chip.specs.declared.wire.Event.{Event}
+use Rattle.chip.specs.declared.wire.Event.the-variants.{Sample}
 
 -- high where nobody pulls
 abbrev pub lineOf : Bool → Bool → Bool
@@ -21,3 +24,7 @@ edgeOf true true false false = Quiet
 edgeOf false true before now = Rise
 edgeOf true false before now = Fall
 edgeOf false false before now = Quiet
+
+-- E1: its clock, the master's data where false pulls, the protect pin
+abbrev pub sample : Bool → Bool → Bool → Event
+sample scl sda pin = Sample (record { scl = scl; sda = sda; pin = pin })

@@ -1,6 +1,7 @@
 // Where a chip is in a transfer, and what a phase does by itself: pull, and take the bit of a clock rise.
 ghost use mathlib.Core.Path.{_≡_};
-ghost use Rattle.parts.specs.Phase.{phaseFits, phasePulls, received, bitOf, risen};
+ghost use Prim.Native.Nat.{_≤_};
+ghost use Rattle.parts.specs.Phase.{weight, phaseFits, phasePulls, received, bitOf, risen};
 
 pub enum Phase {
     Standby,
@@ -26,6 +27,13 @@ pub fn bit_of(byte: u8, bit: u8) -> bool
 {
     let k = bit % 8;
     (byte >> k) % 2 == 1
+}
+
+// `worth` where a bit is set, else 0.
+pub fn weigh(on: bool, worth: u8) -> u8
+    ensures { λ r. ⌜ (r ≡ weight on worth) × (r ≤ worth) ⌝ }
+{
+    if on { worth } else { 0 }
 }
 
 // What was received, with one bit more.

@@ -1,10 +1,9 @@
 // The register: its four bits, the byte that it reads as, and what a byte written to it does.
 ghost use mathlib.Core.Path.{_≡_};
 ghost use mathlib.Core.Bool.{false};
-ghost use Prim.Native.Nat.{_≤_};
-ghost use Rattle.parts.specs.Phase.{weight};
 ghost use Rattle.parts.specs.Register.{registerByte, written, reserved, outcome, latchWritten, lockWritten};
 use crate::phase::bit_of;
+use crate::phase::weigh;
 
 pub struct Register {
     pub ppen: bool,
@@ -18,13 +17,6 @@ pub struct Written {
     pub register: Register,
     pub busy: bool,
     pub note: u8,
-}
-
-// `worth` where a bit is set, else 0.
-fn weigh(on: bool, worth: u8) -> u8
-    ensures { λ r. ⌜ (r ≡ weight on worth) × (r ≤ worth) ⌝ }
-{
-    if on { worth } else { 0 }
 }
 
 // Whether bit 0, 5 or 6 is set.

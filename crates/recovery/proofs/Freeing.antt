@@ -6,46 +6,26 @@ use mathlib.Core.Path.{_≡_, refl, sym, _∙_}
 use mathlib.Core.List.{List}
 use native.Mathlib.Omega.{arith}
 use borrow.Author.Tests.{leb-true}
-use lib.Dec.{ltb}
-use Rattle.parts.specs.Phase.{risen, received, phasePulls, phaseFits}
+use Rattle.parts.specs.Phase.{risen, phasePulls, phaseFits}
 use Rattle.parts.specs.Sector.{nextAddress}
 use Rattle.parts.specs.declared.load.Load.{Load}
 use Rattle.parts.specs.declared.phase.Phase.{Phase}
 use Rattle.parts.specs.declared.phase.Phase.the-variants.{Standby, Slave, First, Second, Data, AckWrite, AckRead, AckFirst, AckByte, Sending, Waiting, Next}
 use Rattle.parts.proofs.CondLaws.{cond-by}
-use Rattle.chip.specs.Chip.{pulls}
-use Rattle.chip.specs.Event.{next, nextArray, sampled, sampledArray, reacted, reactedArray, withLevels}
+use Rattle.parts.proofs.PhaseLaws.{Loose, risen-pulls}
+use Rattle.chip.specs.Chip.{pulls, withTransfer, withLevels}
+use Rattle.chip.specs.Event.{next, nextArray, sampled, judged, judgedArray, reacted, reactedArray}
 use Rattle.chip.specs.Run.{World, world, step}
-use Rattle.chip.specs.Transfer.{withTransfer, fallIn, byteBegun, byteEnded, nextByte}
-use Rattle.chip.specs.Wire.{lineOf, edgeOf}
+use Rattle.chip.specs.Transfer.{fallIn, byteBegun, byteEnded, nextByte}
+use Rattle.chip.specs.Wire.{sample, lineOf, edgeOf}
 use Rattle.chip.specs.declared.chip.Chip.{Chip}
 use Rattle.chip.specs.declared.chip.Moved.{Moved}
 use Rattle.chip.proofs.FitLaws.{Fits}
+use Rattle.chip.proofs.Posed.{posed}
 use Rattle.chip.proofs.StepLaws.{fall-by}
 use Rattle.recovery.specs.Pulses.{afterPulses}
-use Rattle.recovery.specs.Recovery.{sample, pulse}
+use Rattle.recovery.specs.Recovery.{pulse}
 use Rattle.recovery.proofs.Keeping.{worldWith}
-use Rattle.recovery.proofs.Posed.{posed}
-
--- a phase in which the chip does not pull
-abbrev Loose : Phase → Type 0
-Loose p = phasePulls p ≡ false
-
--- a clock rise changes no pull
-rise-pulls : (p : Phase) (bit : Bool) → phasePulls (risen p bit) ≡ phasePulls p
-unfolding phasePulls risen
-rise-pulls Standby bit = refl
-rise-pulls (Slave bits got) bit = cond-by Loose (ltb bits 8) (Slave (bits + 1) (received got bit)) (Slave bits got) (λ e. refl) (λ e. refl)
-rise-pulls (First bits got) bit = cond-by Loose (ltb bits 8) (First (bits + 1) (received got bit)) (First bits got) (λ e. refl) (λ e. refl)
-rise-pulls (Second high bits got) bit = cond-by Loose (ltb bits 8) (Second high (bits + 1) (received got bit)) (Second high bits got) (λ e. refl) (λ e. refl)
-rise-pulls (Data bits got) bit = cond-by Loose (ltb bits 8) (Data (bits + 1) (received got bit)) (Data bits got) (λ e. refl) (λ e. refl)
-rise-pulls AckWrite bit = refl
-rise-pulls AckRead bit = refl
-rise-pulls (AckFirst high) bit = refl
-rise-pulls AckByte bit = refl
-rise-pulls (Sending i byte) bit = refl
-rise-pulls Waiting bit = cond-by Loose bit Standby Next (λ e. refl) (λ e. refl)
-rise-pulls Next bit = refl
 
 -- an idle chip at a phase, with SCL high or low
 abbrev idleAt : Chip → Bool → Phase → Chip
@@ -78,8 +58,8 @@ loose false e = refl
 
 -- at once, where the chip pulls no more
 let-go : (m : ℕ) (pin : Bool) (c : Chip) (xs : List ℕ) (p : Phase) → Loose p → Half m pin (lowered (idleAt c (c .scl) p) xs)
-unfolding afterPulses step next sampled reacted edgeOf pulls
-let-go m pin c xs p h = (0, omega arith, loose (phasePulls (risen p _)) (rise-pulls p _ ∙ h))
+unfolding afterPulses step next sampled judged reacted edgeOf pulls
+let-go m pin c xs p h = (0, omega arith, loose (phasePulls (risen p _)) (risen-pulls p _ ∙ h))
 
 -- SCL high: the next pulse begins with a fall
 abbrev atHigh : Chip → List ℕ → Phase → World
@@ -87,12 +67,12 @@ atHigh c xs p = world (idleAt c true p) xs
 
 -- and is decided by what the fall leaves
 falling : (m : ℕ) (pin : Bool) (c : Chip) (xs : List ℕ) (p : Phase) → Half m pin (lowered (fallIn p (idleAt c true p) xs .chip) xs) → Soon m pin (atHigh c xs p)
-unfolding afterPulses pulse step next nextArray sampled sampledArray reacted reactedArray edgeOf
+unfolding afterPulses pulse step next nextArray sampled judged judgedArray reacted reactedArray edgeOf
 falling m pin c xs p h = h
 
 -- bit i is gone after i + 1 falls
 sends : (i : ℕ) (pin : Bool) (c : Chip) (xs : List ℕ) (byte : ℕ) → Soon i pin (atHigh c xs (Sending i byte))
-unfolding fallIn byteEnded phasePulls step next nextArray sampled sampledArray reacted reactedArray edgeOf risen
+unfolding fallIn byteEnded phasePulls step next nextArray sampled judged judgedArray reacted reactedArray edgeOf risen
 sends zero pin c xs byte =
     let d : Chip = idleAt c true (Sending zero byte) in
     falling 0 pin c xs (Sending zero byte)
@@ -112,7 +92,7 @@ acks m pin c xs p after h e = falling m pin c xs p (rw e (let-go m pin (idleAt c
 
 -- but where it turns to reading a byte follows, and so it does after the master's low bit
 begins : (pin : Bool) (c : Chip) (xs : List ℕ) (p : Phase) (byte : ℕ) → fallIn p (idleAt c true p) xs .chip ≡ idleAt c true (Sending 7 byte) → Soon 8 pin (atHigh c xs p)
-unfolding step next nextArray sampled sampledArray reacted reactedArray edgeOf risen
+unfolding step next nextArray sampled judged judgedArray reacted reactedArray edgeOf risen
 begins pin c xs p byte e =
     let v : World = lowered (idleAt c true (Sending 7 byte)) xs in
     falling 8 pin c xs p (rw e (up 7 pin v (sends 7 pin (raised pin v .chip) (raised pin v .array) byte)))
@@ -123,7 +103,7 @@ more m n pin v h (k, l, e) = (k, omega arith, e)
 
 -- SCL low, at any phase in range
 rising : (pin : Bool) (c : Chip) (xs : List ℕ) (p : Phase) → phaseFits p ≡ true → Half 9 pin (lowered (idleAt c (c .scl) p) xs)
-unfolding phaseFits phasePulls fallIn byteBegun step next nextArray sampled sampledArray reacted reactedArray edgeOf risen
+unfolding phaseFits phasePulls fallIn byteBegun step next nextArray sampled judged judgedArray reacted reactedArray edgeOf risen
 rising pin c xs Standby h = let-go 9 pin c xs Standby refl
 rising pin c xs (Slave bits got) h = let-go 9 pin c xs (Slave bits got) refl
 rising pin c xs (First bits got) h = let-go 9 pin c xs (First bits got) refl
@@ -157,12 +137,12 @@ falls : (pin : Bool) (c : Chip) (xs : List ℕ) → Fits c → Soon 9 pin (atHig
 falls pin c xs f =
     falling 9 pin c xs (c .phase)
     (fall-by (λ (m : Moved). Half 9 pin (lowered (m .chip) xs)) (idleAt c true (c .phase))
-    (λ phase counter mark load note fits. landed pin c xs phase counter mark load (fits f .phase))
+    (λ phase counter mark load note m. landed pin c xs phase counter mark load (m .fits f .phase))
     (c .phase) xs refl)
 
 -- a chip by busy and SCL; a busy one does not pull
 by-levels : (pin : Bool) (w : World) (busy scl : Bool) → Fits (w .chip) → Soon 9 pin (worldWith w busy scl (w .chip .line))
-unfolding afterPulses pulse step next nextArray sampled sampledArray reacted reactedArray edgeOf pulls
+unfolding afterPulses pulse step next nextArray sampled judged judgedArray reacted reactedArray edgeOf pulls
 by-levels pin w true scl f = (0, omega arith, refl)
 by-levels pin w false true f = falls pin (w .chip) (w .array) f
 by-levels pin w false false f = rising pin (w .chip) (w .array) (w .chip .phase) (f .phase)

@@ -1,19 +1,20 @@
--- What a pulse and a START keep: part, select, register, busy and the array. Assumes nothing.
+-- What a pulse and a START keep: part, select, register, busy and the array, since neither is a STOP. Assumes nothing.
 use Prim.Native.Nat.{ℕ}
 use mathlib.Core.Bool.{Bool, true, false, cond}
-use mathlib.Core.Path.{_≡_, refl, _∙_}
+use mathlib.Core.Path.{_≡_, refl, ap, _∙_}
 use mathlib.Core.List.{List}
 use Rattle.parts.specs.declared.register.Register.{Register}
 use Rattle.chip.specs.Chip.{pulls}
-use Rattle.chip.specs.Event.{next, nextArray, sampled, sampledArray, reacted, reactedArray}
+use Rattle.chip.specs.Event.{next, sampled, lineIn}
 use Rattle.chip.specs.Run.{World, world, step}
-use Rattle.chip.specs.Transfer.{fallIn}
-use Rattle.chip.specs.Wire.{lineOf, edgeOf}
-use Rattle.chip.specs.declared.chip.Moved.{Moved}
+use Rattle.chip.specs.View.{isStop, stops, Untouched}
+use Rattle.chip.specs.Wire.{sample, lineOf, edgeOf}
 use Rattle.chip.specs.declared.wire.Edge.the-variants.{Quiet, Start}
-use Rattle.chip.proofs.StepLaws.{fall-by}
-use Rattle.recovery.specs.Recovery.{sample, pulse}
-use Rattle.recovery.proofs.Posed.{posed}
+use Rattle.chip.specs.declared.wire.Sample.{Sample as Levels}
+use Rattle.chip.proofs.Posed.{posed}
+use Rattle.chip.proofs.RangeLaws.{next-same}
+use Rattle.chip.proofs.ViewLaws.{unstopped}
+use Rattle.recovery.specs.Recovery.{pulse}
 
 -- what is kept of a chip and its array, over what is left of them
 pub record Fixed (w : World) (p s : ℕ) (r : Register) (b : Bool) (ys : List ℕ) : Type 0 where
@@ -46,32 +47,24 @@ and-then u v w k l =
 abbrev pub worldWith : World → Bool → Bool → Bool → World
 worldWith w busy scl line = world (posed (w .chip) busy scl line (w .chip .phase)) (w .array)
 
--- a fall moves a chip in its transfer, and nothing more
-fall-keeps : (w : World) → Keeps w (world (fallIn (w .chip .phase) (w .chip) (w .array) .chip) (w .array))
-fall-keeps w =
-    fall-by (λ (m : Moved). Keeps w (world (m .chip) (w .array))) (w .chip) (λ phase counter mark load note fits. same w) (w .chip .phase) (w .array) refl
+-- a sample that is no stop
+unstopped-keeps : (scl sda pin : Bool) (w : World) → isStop (edgeOf (w .chip .scl) scl (w .chip .line) (lineOf (pulls (w .chip)) sda)) ≡ false → Keeps w (step (sample scl sda pin) w)
+unfolding step stops
+unstopped-keeps scl sda pin w other =
+    let s : Levels = record { scl = scl; sda = sda; pin = pin } in
+    let u = unstopped s (w .chip) (w .array) other in
+    let t = next-same (sample scl sda pin) (w .chip) (w .array) in
+    record { part = t .0; select = t .1; register = u .register; busy = u .same; array = u .array }
 
--- the first half of a pulse is a fall or nothing
-low-keeps : (pin : Bool) (w : World) (busy scl : Bool)
-    → Keeps (worldWith w busy scl (w .chip .line)) (step (sample false true pin) (worldWith w busy scl (w .chip .line)))
-unfolding step next nextArray sampled sampledArray reacted reactedArray edgeOf
-low-keeps pin w true scl = same (worldWith w true scl (w .chip .line))
-low-keeps pin w false true = fall-keeps (worldWith w false true (w .chip .line))
-low-keeps pin w false false = same (worldWith w false false (w .chip .line))
+-- SCL low makes no stop, and neither does SCL that was low
+low-edge : (scl line now : Bool) → isStop (edgeOf scl false line now) ≡ false
+unfolding edgeOf isStop
+low-edge true line now = refl
+low-edge false line now = refl
 
--- the second half is a rise
-high-keeps : (pin : Bool) (w : World) (busy : Bool)
-    → Keeps (worldWith w busy false (w .chip .line)) (step (sample true true pin) (worldWith w busy false (w .chip .line)))
-unfolding step next nextArray sampled sampledArray reacted reactedArray edgeOf
-high-keeps pin w true = same (worldWith w true false (w .chip .line))
-high-keeps pin w false = same (worldWith w false false (w .chip .line))
-
--- a pulse
-pub pulse-keeps : (pin : Bool) (w : World) → Keeps w (pulse pin w)
-unfolding pulse step next sampled
-pulse-keeps pin w =
-    let v : World = step (sample false true pin) w in
-    and-then w v (pulse pin w) (low-keeps pin w (w .chip .busy) (w .chip .scl)) (high-keeps pin v (v .chip .busy))
+rise-edge : (line now : Bool) → isStop (edgeOf false true line now) ≡ false
+unfolding edgeOf isStop
+rise-edge line now = refl
 
 -- SDA pulled with SCL high is a START where the line was high, and nothing where it was low
 pub start-edge : (line pulling : Bool) → edgeOf true true line (lineOf pulling false) ≡ cond line Start Quiet
@@ -81,9 +74,22 @@ start-edge true false = refl
 start-edge false true = refl
 start-edge false false = refl
 
--- so it keeps as much as a pulse
-pub start-keeps : (pin : Bool) (w : World) (busy line : Bool) → Keeps (worldWith w busy true line) (step (sample true false pin) (worldWith w busy true line))
-unfolding step next nextArray sampled sampledArray reacted reactedArray
-start-keeps pin w true line = same (worldWith w true true line)
-start-keeps pin w false true = rw (start-edge true (pulls (worldWith w false true true .chip))) (same (worldWith w false true true))
-start-keeps pin w false false = rw (start-edge false (pulls (worldWith w false true false .chip))) (same (worldWith w false true false))
+-- a pulled line makes no stop
+pulled-edge : (scl line pulling : Bool) → isStop (edgeOf scl true line (lineOf pulling false)) ≡ false
+unfolding isStop
+pulled-edge true true pulling = ap isStop (start-edge true pulling)
+pulled-edge true false pulling = ap isStop (start-edge false pulling)
+pulled-edge false line pulling = rise-edge line (lineOf pulling false)
+
+-- a pulse
+pub pulse-keeps : (pin : Bool) (w : World) → Keeps w (pulse pin w)
+unfolding pulse step next sampled
+pulse-keeps pin w =
+    let v : World = step (sample false true pin) w in
+    and-then w v (pulse pin w)
+    (unstopped-keeps false true pin w (low-edge (w .chip .scl) (w .chip .line) (lineOf (pulls (w .chip)) true)))
+    (unstopped-keeps true true pin v (rise-edge (v .chip .line) (lineOf (pulls (v .chip)) true)))
+
+-- the START after it
+pub start-keeps : (pin : Bool) (w : World) → Keeps w (step (sample true false pin) w)
+start-keeps pin w = unstopped-keeps true false pin w (pulled-edge (w .chip .scl) (w .chip .line) (pulls (w .chip)))

@@ -6,14 +6,17 @@ use mathlib.Core.List.{List, [], _∷_}
 use native.Mathlib.Omega.{arith}
 use lib.ListN.{length}
 use Rattle.parts.proofs.CondLaws.{cond-by}
+use Rattle.parts.specs.Rows.{every, stepped}
 use Rattle.chip.specs.Event.{refusal}
-use Rattle.chip.specs.Run.{World, world, step, ran}
+use Rattle.chip.specs.Run.{World, world, step}
+use Rattle.chip.specs.Wire.{sample}
 use Rattle.chip.specs.declared.chip.Chip.{Chip}
 use Rattle.chip.proofs.RunLaws.{ran-taken}
-use Rattle.trace.specs.Bytes.{eventOf, allEvents}
+use Rattle.trace.specs.Bytes.{allEvents}
 use Rattle.trace.specs.Trace.{after, ranOf, runArray}
+use Rattle.trace.proofs.ByteLaws.{sample-event, sample-taken}
 use Rattle.trace.proofs.RunLaws.{run-whole}
-use Rattle.recovery.specs.Recovery.{Freed, sample, pulse, pulsed, pulseBytes, startBytes}
+use Rattle.recovery.specs.Recovery.{Freed, pulse, pulsed, pulseBytes, startBytes}
 
 module _ (pin : Bool) (w : World) where
   abbrev pub freedAt : ℕ → Freed
@@ -39,51 +42,34 @@ module _ (pin : Bool) (w : World) where
 
 -- the event bytes of a pulse, and of the start, are event bytes and make the same world
 pub pulse-events : (pin : Bool) → allEvents (pulseBytes pin) ≡ true
-unfolding allEvents pulseBytes
-pulse-events true = refl
-pulse-events false = refl
+unfolding every
+pulse-events pin = rw (sample-taken false true pin, sample-taken true true pin)
 
 pub pulse-trace : (pin : Bool) (w : World) → after (pulseBytes pin) w ≡ pulse pin w
-unfolding after ran pulse pulseBytes eventOf
-pulse-trace true w = refl
-pulse-trace false w = refl
+unfolding after stepped pulse
+pulse-trace pin w = rw (sample-event false true pin, sample-event true true pin)
 
 pub start-events : (pin : Bool) → allEvents (startBytes pin) ≡ true
-unfolding allEvents startBytes
-start-events true = refl
-start-events false = refl
+unfolding every
+start-events pin = rw (sample-taken true false pin)
 
 pub start-trace : (pin : Bool) (w : World) → after (startBytes pin) w ≡ step (sample true false pin) w
-unfolding after ran startBytes eventOf
-start-trace true w = refl
-start-trace false w = refl
-
--- their lengths
-pub pulse-length : (pin : Bool) → length (pulseBytes pin) ≡ 2
-unfolding pulseBytes
-pulse-length true = refl
-pulse-length false = refl
-
-pub start-length : (pin : Bool) → length (startBytes pin) ≡ 1
-unfolding startBytes
-start-length true = refl
-start-length false = refl
+unfolding after stepped
+start-trace pin w = rw (sample-event true false pin)
 
 -- so a run of them does a pulse, and the start
 module _ (pin : Bool) (c : Chip) (xs old : List ℕ) (taken : refusal c xs ≡ 0) where
   pub run-pulse : length old ≡ 2 → world (ranOf c xs (pulseBytes pin) old .chip) (runArray c xs (pulseBytes pin) old) ≡ pulse pin (world c xs)
   run-pulse two =
-      let n : length (pulseBytes pin) ≡ 2 = pulse-length pin in
       run-whole c xs (pulseBytes pin) old taken (omega arith) (omega arith) (pulse-events pin) ∙ pulse-trace pin (world c xs)
 
   pub run-start : length old ≡ 1 → world (ranOf c xs (startBytes pin) old .chip) (runArray c xs (startBytes pin) old) ≡ step (sample true false pin) (world c xs)
   run-start one =
-      let n : length (startBytes pin) ≡ 1 = start-length pin in
       run-whole c xs (startBytes pin) old taken (omega arith) (omega arith) (start-events pin) ∙ start-trace pin (world c xs)
 
 -- a world that is not refused stays so over a pulse, and over all of them
 pub pulse-taken : (pin : Bool) (w : World) → refusal (w .chip) (w .array) ≡ 0 → refusal (pulse pin w .chip) (pulse pin w .array) ≡ 0
-unfolding pulse ran
+unfolding pulse stepped
 pulse-taken pin w taken = ran-taken (sample false true pin ∷ sample true true pin ∷ []) w taken
 
 pub pulsed-taken : (left k : ℕ) (pin : Bool) (w : World) → refusal (w .chip) (w .array) ≡ 0 → refusal (pulsed left k pin w .world .chip) (pulsed left k pin w .world .array) ≡ 0

@@ -4,14 +4,16 @@ use Prim.Native.Nat.{ℕ, zero, suc}
 use mathlib.Core.Bool.{Bool, true, false}
 use mathlib.Core.Path.{_≡_, refl, _∙_, ap, subst}
 use Rattle.parts.specs.Phase.{phasePulls}
-use Rattle.chip.specs.Chip.{chipFits, pulls}
-use Rattle.chip.specs.Event.{next, nextArray, sampled, sampledArray, reacted, withLevels}
+use Rattle.chip.specs.Chip.{chipFits, pulls, withLevels}
+use Rattle.chip.specs.Event.{next, nextArray, sampled, judged, judgedArray, reacted}
 use Rattle.chip.specs.Run.{World, world, step}
+use Rattle.chip.specs.View.{SeesStart}
+use Rattle.chip.specs.Wire.{sample}
+use Rattle.chip.proofs.Posed.{posed-so}
 use Rattle.chip.proofs.RangeLaws.{next-fits}
-use Rattle.recovery.specs.Recovery.{sample, pulse, pulsed, freed, recovered}
-use Rattle.recovery.specs.Pulses.{afterPulses, Unchanged, SeesStart}
+use Rattle.recovery.specs.Recovery.{pulse, pulsed, freed, recovered}
+use Rattle.recovery.specs.Pulses.{afterPulses, Unchanged}
 use Rattle.recovery.proofs.Keeping.{Keeps, same, and-then, worldWith, pulse-keeps, start-edge, start-keeps}
-use Rattle.recovery.proofs.Posed.{posed-so}
 use Rattle.recovery.proofs.TenPulses.{Counted, counted, ten-pulses}
 
 -- pulses keep what one pulse keeps
@@ -39,9 +41,7 @@ recovered-keeps pin w = go (counted 9 1 pin w)
     go c =
         let v : World = afterPulses (suc (c .n)) pin w in
         rw (c .there)
-        (and-then w v (step (sample true false pin) v) (pulses-keep (suc (c .n)) pin w)
-        (subst (λ (u : World). Keeps u (step (sample true false pin) u)) (known v refl (pulses-clock (c .n) pin w) refl)
-        (start-keeps pin v (v .chip .busy) (v .chip .line))))
+        (and-then w v (step (sample true false pin) v) (pulses-keep (suc (c .n)) pin w) (start-keeps pin v))
 
 -- recovery changes no array byte and none of PPEN, BL, RPEL and PEL, whatever the chip
 pub recovery-keeps : (pin : Bool) (w : World) → Unchanged w (recovered pin w)
@@ -72,11 +72,11 @@ busy-recovery pin w b =
     subst
     (λ (v : World). (freed pin v .pulses ≡ 1) × (recovered pin v ≡ world (withLevels (v .chip) true false) (v .array)))
     (known w b refl refl)
-    (unfold recovered pulsed pulse step next nextArray sampled sampledArray pulls in (refl, refl))
+    (unfold recovered pulsed pulse step next nextArray sampled judged judgedArray pulls in (refl, refl))
 
 -- an idle chip with SCL and the line high sees the START
 start-seen : (pin : Bool) (w : World) → SeesStart (step (sample true false pin) (worldWith w false true true) .chip)
-unfolding step next sampled reacted pulls phasePulls
+unfolding step next sampled judged reacted pulls phasePulls
 start-seen pin w =
     rw (start-edge true (pulls (worldWith w false true true .chip))) (record { idle = refl; phase = refl; load = refl; scl = refl; line = refl })
 

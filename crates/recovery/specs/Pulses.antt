@@ -1,18 +1,14 @@
--- What is promised of recovery, in the words of its own definitions. (The paper, "Traces, recovery, bench".)
+-- What is promised of recovery, in the words of its own definitions. (RULES R3, R4, R8.)
 --
 -- | Name | Meaning |
 -- |---|---|
 -- | `afterPulses n` | the world after n pulses |
 -- | `FirstHigh` | the number of the first pulse with a high line after it, and the world there |
 -- | `Unchanged` | two worlds with one array, part, select and register (PPEN, BL, RPEL and PEL) |
--- | `SeesStart` | a chip that has just seen a START |
 use Prim.Native.Nat.{ℕ, zero, suc, _≤_, _<_}
 use mathlib.Core.Bool.{Bool, true, false}
 use mathlib.Core.Path.{_≡_}
-use Rattle.parts.specs.Load.{noLoad}
-use Rattle.parts.specs.declared.phase.Phase.the-variants.{Slave}
 use Rattle.chip.specs.Run.{World}
-use Rattle.chip.specs.declared.chip.Chip.{Chip}
 use Rattle.recovery.specs.Recovery.{pulse}
 
 -- one after the other
@@ -34,11 +30,3 @@ pub record Unchanged (before after : World) : Type 0 where
   pub register : after .chip .register ≡ before .chip .register
   pub part : after .chip .part ≡ before .chip .part
   pub select : after .chip .select ≡ before .chip .select
-
--- no load, a slave byte to come, the clock still high and the line pulled
-pub record SeesStart (c : Chip) : Type 0 where
-  pub idle : c .busy ≡ false
-  pub phase : c .phase ≡ Slave 0 0
-  pub load : c .load ≡ noLoad
-  pub scl : c .scl ≡ true
-  pub line : c .line ≡ false

@@ -2,10 +2,12 @@
 ghost use mathlib.Core.Path.{_≡_};
 ghost use mathlib.Core.Bool.{true, false};
 ghost use Rattle.chip.specs.Event.{refusal};
-ghost use Rattle.recovery.specs.Recovery.{sample, pulseBytes, startBytes, pulse, freed, recoveryAnswer, recoveryArray};
+ghost use Rattle.chip.specs.Wire.{sample};
+ghost use Rattle.recovery.specs.Recovery.{pulseBytes, startBytes, pulse, freed, recoveryAnswer, recoveryArray};
 ghost use Rattle.chip.specs.Run.{world, step};
 use chip::chip::Chip;
 use trace::run;
+use trace::sample_byte;
 
 // What recovery answers: the refusal, the chip, and the number of the first pulse after which the line was high.
 pub struct Recovered {
@@ -24,14 +26,14 @@ struct Pulsed {
 fn pulse_bytes(pin: bool) -> [u8; 2]
     ensures { λ r. ⌜ r ≡ pulseBytes pin ⌝ }
 {
-    if pin { [6, 7] } else { [2, 3] }
+    [sample_byte(false, true, pin), sample_byte(true, true, pin)]
 }
 
 // The event byte of the start: the clock high, the data line pulled.
 fn start_bytes(pin: bool) -> [u8; 1]
     ensures { λ r. ⌜ r ≡ startBytes pin ⌝ }
 {
-    if pin { [5] } else { [1] }
+    [sample_byte(true, false, pin)]
 }
 
 // One pulse.
@@ -46,7 +48,7 @@ fn pulsed_once(chip: Chip, array: &mut [u8], pin: bool) -> Chip
 }
 
 // The start.
-fn started(chip: Chip, array: &mut [u8], pin: bool) -> Chip
+fn start(chip: Chip, array: &mut [u8], pin: bool) -> Chip
     requires { ⌜ refusal chip (now array) ≡ 0 ⌝ }
     ensures { λ r. ⌜ world r (now (array .exit)) ≡ step (sample true false pin) (world chip (now (array .entry))) ⌝ }
 {
@@ -88,7 +90,7 @@ pub fn recover(chip: Chip, array: &mut [u8], pin: bool) -> Recovered
     if number == 0 {
         let free = pulsed_free(chip, array, pin);
         let pulses = free.pulses;
-        let last = started(free.chip, array, pin);
+        let last = start(free.chip, array, pin);
         return Recovered {
             refusal: 0,
             chip: last,

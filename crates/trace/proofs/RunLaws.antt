@@ -9,8 +9,9 @@ use borrow.Author.Tests.{le-leb, lt-leb, leb-true, eqb-false}
 use lib.Dec.{leb, eqb}
 use lib.ListN.{length, getD, set, take, drop, length-set, drop-of-length-le, take-append-drop}
 use lib.Seq.{drop-cons, drop-drop, drop-set-lt, take-suc-set}
+use Rattle.parts.specs.Rows.{every, stepped}
 use Rattle.chip.specs.Event.{next, nextArray, refusal}
-use Rattle.chip.specs.Run.{World, world, step, noteOf, ran}
+use Rattle.chip.specs.Run.{World, world, step, noteOf}
 use Rattle.chip.specs.declared.chip.Chip.{Chip}
 use Rattle.trace.specs.Bytes.{eventOf, allEvents, answerByte}
 use Rattle.trace.specs.Trace.{after, answersOf, runRefusal, unless, ranOf, runArray}
@@ -18,7 +19,7 @@ use Rattle.trace.specs.Trace.{after, answersOf, runRefusal, unless, ranO
 -- what is left of the test of a row, at the byte that comes
 module _ (bytes : List ℕ) (i : ℕ) (h : i < length bytes) where
   all-here : allEvents (drop i bytes) ≡ (leb (getD bytes i 0) 9 && allEvents (drop (suc i) bytes))
-  unfolding allEvents
+  unfolding every
   all-here = ap allEvents (drop-cons bytes i 0 h)
 
   pub all-again : getD bytes i 0 ≤ 9 → allEvents (drop i bytes) ≡ allEvents bytes → allEvents (drop (i + 1) bytes) ≡ allEvents bytes
@@ -28,7 +29,7 @@ module _ (bytes : List ℕ) (i : ℕ) (h : i < length bytes) where
   all-not bad before = rw (← before, all-here, lt-leb _ _ bad)
 
 pub all-end : (bytes : List ℕ) (i : ℕ) → length bytes ≤ i → allEvents (drop i bytes) ≡ allEvents bytes → allEvents bytes ≡ true
-unfolding allEvents
+unfolding every
 all-end bytes i h before = sym before ∙ ap allEvents (drop-of-length-le bytes h)
 
 -- after i events: the rest of the trace leads where the whole leads, the answers so far and those to come are the whole's,
@@ -51,7 +52,7 @@ module _ (bytes old : List ℕ) (w : World) (i : ℕ) (c : Chip) (xs told : List
       → i < length told
       → Going bytes old w (i + 1) (next (eventOf (getD bytes i 0)) c xs .chip) (nextArray (eventOf (getD bytes i 0)) c xs)
       (set told i (answerByte (next (eventOf (getD bytes i 0)) c xs .chip .line) (next (eventOf (getD bytes i 0)) c xs .note)))
-  unfolding after answersOf ran step noteOf
+  unfolding after answersOf stepped step noteOf
   going-again h r =
       record {
         within = omega arith;
@@ -69,7 +70,7 @@ module _ (bytes old : List ℕ) (w : World) (i : ℕ) (c : Chip) (xs told : List
 
   -- the trace is at its end
   pub going-ends : length bytes ≤ i → (world c xs ≡ after bytes w) × (told ≡ answersOf bytes w ++ drop (length bytes) old)
-  unfolding after answersOf ran
+  unfolding after answersOf stepped
   going-ends h =
       let nothing : [] ≡ drop i bytes = sym (drop-of-length-le bytes h) in
       let whole : i ≡ length bytes = omega arith in

@@ -1,31 +1,37 @@
--- Event bytes and answer bytes. (The paper, "Traces, recovery, bench".)
+-- Event bytes and answer bytes. (RULES B1-B3.)
 --
 -- | Name | Meaning |
 -- |---|---|
 -- | `eventOf byte` | the event of an event byte |
+-- | `sampleByte scl sda pin` | the event byte of a sample |
 -- | `allEvents` | every byte of a row is an event byte |
 -- | `answerByte line note` | the answer byte of a line and a note |
+-- | `answerLine byte` | the line in an answer byte |
 use Prim.Native.Nat.{ℕ, _+_, _*_, _%_}
-use mathlib.Core.Bool.{Bool, true, cond, _&&_}
-use mathlib.Core.List.{List, [], _∷_}
+use mathlib.Core.Bool.{Bool, cond}
+use mathlib.Core.List.{List}
 use lib.Dec.{eqb, leb}
 use Rattle.parts.specs.Phase.{weight, bitOf}
-use Rattle.chip.specs.Run.{World, step, noteOf}
+use Rattle.parts.specs.Rows.{every}
+use Rattle.chip.specs.Wire.{sample}
 use Rattle.chip.specs.declared.wire.Event.{Event}
-use Rattle.chip.specs.declared.wire.Event.the-variants.{Sample, ProgramDone, PowerUp}
+use Rattle.chip.specs.declared.wire.Event.the-variants.{ProgramDone, PowerUp}
 
--- 8 is program-done, 9 power-up; below, bit 0 is SCL, bit 1 SDA and bit 2 the pin of a sample
+-- B1, B2: 8 is program-done, 9 power-up; below, bit 0 is SCL, bit 1 SDA and bit 2 the pin of a sample
 unfoldable pub eventOf : ℕ → Event
-eventOf byte =
-    cond (eqb byte 8) ProgramDone
-    (cond (eqb byte 9) PowerUp
-    (Sample (record { scl = bitOf byte 0; sda = bitOf byte 1; pin = bitOf byte 2 })))
+eventOf byte = cond (eqb byte 8) ProgramDone (cond (eqb byte 9) PowerUp (sample (bitOf byte 0) (bitOf byte 1) (bitOf byte 2)))
 
--- none is above 9
-unfoldable pub allEvents : List ℕ → Bool
-allEvents [] = true
-allEvents (byte ∷ bytes) = leb byte 9 && allEvents bytes
+-- B1, the other way
+abbrev pub sampleByte : Bool → Bool → Bool → ℕ
+sampleByte scl sda pin = weight scl 1 + weight sda 2 + weight pin 4
 
--- bit 0 is the line, bits 1-3 are the note
+-- B2: none is above 9
+abbrev pub allEvents : List ℕ → Bool
+allEvents bytes = every (λ byte. leb byte 9) bytes
+
+-- B3: bit 0 is the line, bits 1-3 are the note
 abbrev pub answerByte : Bool → ℕ → ℕ
 answerByte line note = weight line 1 + note % 8 * 2
+
+abbrev pub answerLine : ℕ → Bool
+answerLine byte = bitOf byte 0

@@ -1,4 +1,4 @@
--- Running a trace. (The paper, "Traces, recovery, bench" and "Refusals and what they return".)
+-- Running a trace. (RULES B4-B6, F4-F6, O3, O9, O10.)
 --
 -- | Name | Meaning |
 -- |---|---|
@@ -19,7 +19,7 @@ use Rattle.chip.specs.declared.chip.Chip.{Chip}
 use Rattle.trace.specs.Bytes.{eventOf, allEvents, answerByte}
 use Rattle.trace.specs.declared.Ran.{Ran}
 
--- each byte is one event
+-- B4: each byte is one event
 unfoldable pub after : List ℕ → World → World
 after bytes w = ran (map eventOf bytes) w
 
@@ -29,14 +29,14 @@ answersOf [] w = []
 answersOf (byte ∷ bytes) w =
     answerByte (step (eventOf byte) w .chip .line) (noteOf (eventOf byte) w) ∷ answersOf bytes (step (eventOf byte) w)
 
--- 4 for over 65,536 events, 5 for too little room, 6 for a byte above 9
+-- O3, F4-F6: 4 for over 65,536 events, 5 for too little room, 6 for a byte above 9
 unfoldable pub runRefusal : Chip → List ℕ → List ℕ → ℕ → ℕ
 runRefusal c xs bytes room =
     cond (eqb (refusal c xs) 0)
     (cond (leb (length bytes) 65536) (cond (leb (length bytes) room) (cond (allEvents bytes) 0 6) 5) 4)
     (refusal c xs)
 
--- refused, all is kept
+-- O10: refused, all is kept
 unfoldable pub unless {ℓ} : {A : Type ℓ} → ℕ → A → A → A
 unless number kept run = cond (eqb number 0) run kept
 
@@ -52,7 +52,7 @@ ranOf c xs bytes old =
 unfoldable pub runArray : Chip → List ℕ → List ℕ → List ℕ → List ℕ
 runArray c xs bytes old = unless (runRefusal c xs bytes (length old)) xs (after bytes (world c xs) .array)
 
--- bytes past the trace stay
+-- B5: bytes past the trace stay
 unfoldable pub runAnswers : Chip → List ℕ → List ℕ → List ℕ → List ℕ
 runAnswers c xs bytes old =
     unless (runRefusal c xs bytes (length old)) old (answersOf bytes (world c xs) ++ drop (length bytes) old)

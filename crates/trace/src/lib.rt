@@ -4,12 +4,13 @@ ghost use mathlib.Core.List.{_++_};
 ghost use Prim.Native.Nat.{_≤_};
 ghost use lib.ListN.{length, drop};
 ghost use Rattle.chip.specs.Run.{world};
-ghost use Rattle.trace.specs.Bytes.{eventOf, allEvents, answerByte};
+ghost use Rattle.trace.specs.Bytes.{eventOf, sampleByte, allEvents, answerByte};
 ghost use Rattle.trace.specs.Trace.{after, answersOf, runRefusal, runArray, runAnswers, ranOf};
 use chip::chip::Chip;
 use chip::wire::Event;
 use chip::wire::Sample;
 use parts::phase::bit_of;
+use parts::phase::weigh;
 
 // What running a trace answers.
 pub struct Ran {
@@ -35,6 +36,13 @@ pub fn event_of(byte: u8) -> Event
         sda: sda,
         pin: pin,
     })
+}
+
+// The event byte of a sample.
+pub fn sample_byte(scl: bool, sda: bool, pin: bool) -> u8
+    ensures { λ r. ⌜ r ≡ sampleByte scl sda pin ⌝ }
+{
+    weigh(scl, 1) + weigh(sda, 2) + weigh(pin, 4)
 }
 
 // The answer byte of a line and a note.

@@ -5,7 +5,8 @@ use borrow.Author.Needs.{needs}
 use borrow.Author.Tests.{eq-eqb, ne-eqb}
 use Rattle.chip.specs.Event.{refusal}
 use Rattle.chip.specs.Run.{World, step}
-use Rattle.recovery.specs.Recovery.{sample, recovered, recoveryAnswer, recoveryArray}
+use Rattle.chip.specs.Wire.{sample}
+use Rattle.recovery.specs.Recovery.{recovered, recoveryAnswer, recoveryArray}
 use Rattle.recovery.proofs.PulseLaws.{pulsed-taken}
 use Rattle.recovery.proofs.recover.Statement.{statement}
 use Rattle.recovery.proofs.recover.Tie as tie
@@ -15,7 +16,7 @@ unfolding recovered recoveryAnswer recoveryArray
 returns c =
     let free = c .before .before .before .before .before .before .pulsed-free .ensures in
     let taken = eq-eqb _ _ (sym (c .before .before .before .before .before .before .before .before .before .refusal .ensures) ∙ c .before .before .before .before .before .before .before .before .if1 .taken) in
-    let whole = c .before .before .started .ensures ∙ ap (λ (w : World). step (sample true false (c .before .before .before .before .before .before .before .before .before .before .before .before .args .pin)) w) (free .0) in
+    let whole = c .before .before .start .ensures ∙ ap (λ (w : World). step (sample true false (c .before .before .before .before .before .before .before .before .before .before .before .before .args .pin)) w) (free .0) in
     (simp (ap (λ (w : World). w .chip) whole, free .1, taken), simp (ap (λ (w : World). w .array) whole, taken))
 
 returns-2 : tie.Need-returns-2

@@ -1,9 +1,9 @@
--- `started` meets its contract: a run of its event byte. Assumes nothing.
+-- `start` meets its contract: a run of its event byte. Assumes nothing.
 use mathlib.Core.Path.{refl}
 use borrow.Author.Needs.{needs}
 use Rattle.recovery.proofs.PulseLaws.{run-start}
-use Rattle.recovery.proofs.started.Statement.{statement}
-use Rattle.recovery.proofs.started.Tie as tie
+use Rattle.recovery.proofs.start.Statement.{statement}
+use Rattle.recovery.proofs.start.Tie as tie
 
 returns : tie.Need-returns
 returns c =
@@ -11,8 +11,8 @@ returns c =
     simp (ran .0, ran .1 .0, c .before .before .before .before .before .before .before .before .start-bytes .ensures)
     (run-start _ _ _ _ (c .before .before .before .before .before .before .before .before .before .before .pre) refl)
 
-pub started-spec : {M : Type 1} → statement M
-started-spec =
+pub start-spec : {M : Type 1} → statement M
+start-spec =
     tie.close
     (tie.spec
     (λ c κs. search needs)
