@@ -4,10 +4,11 @@ use lib.Dec.{T}
 use Rattle.parts.specs.Load.{loaded, storedTo}
 use Rattle.parts.specs.Locks.{firstLocked}
 use Rattle.parts.specs.Phase.{phaseFits, phasePulls, risen}
+use Rattle.parts.specs.Rows.{stepped}
 use Rattle.parts.specs.Register.{latchWritten, lockWritten, written}
 use Rattle.chip.specs.Chip.{chipFits, pulls}
-use Rattle.chip.specs.Event.{reacted, reactedArray, sampled, sampledArray, next, nextArray, refusal}
-use Rattle.chip.specs.Run.{step, noteOf, ran, lines, notes}
+use Rattle.chip.specs.Event.{reacted, reactedArray, sampled, judged, judgedArray, next, nextArray, refusal}
+use Rattle.chip.specs.Run.{step, noteOf, notes}
 use Rattle.chip.specs.Stop.{rightly, arrayEffect, rightEffect, stopEffect, effectMoved, effectArray}
 use Rattle.chip.specs.Transfer.{slaveTaken, addressTaken, arrayData, registerData, byteBegun, byteEnded, fallIn}
 use Rattle.chip.specs.Wire.{edgeOf}
@@ -18,12 +19,16 @@ use Rattle.gate.specs.Label.{labelByte}
 use Rattle.gate.specs.Form.{recordOf}
 use Rattle.gate.specs.Writing.{writeOf, writtenOf}
 use Rattle.gate.specs.Reading.{isFree, labelFits, limitsFit, heldOf, readOf}
-use Rattle.promises.specs.RandomRead.{byteSent, clocks, bytesTaken, byteTaken, randomRead, highs, bitsIn, byteOf}
+use Rattle.trace.specs.Bytes.{eventOf}
+use Rattle.trace.specs.Trace.{answersOf}
+use Rattle.messages.specs.Messages.{byteSent}
+use Rattle.messages.specs.RandomRead.{bytesTaken, byteTaken, randomRead, highs, bitsIn}
+use Rattle.messages.specs.Wires.{spelled, clocks, byteOf}
 use Rattle.promises.specs.Cases.{holds, worked, errors}
 
 -- both lists, computed
 computed : T (holds worked) × T (holds errors)
-unfolding loaded storedTo firstLocked phaseFits phasePulls risen latchWritten lockWritten written chipFits pulls reacted reactedArray sampled sampledArray next nextArray refusal step noteOf ran lines notes rightly arrayEffect rightEffect stopEffect effectMoved effectArray slaveTaken addressTaken arrayData registerData byteBegun byteEnded fallIn edgeOf afterPulses pulse pulsed recovered recoveryAnswer inRange same bits16 signed16 labelByte recordOf writeOf writtenOf isFree labelFits limitsFit heldOf readOf byteSent clocks bytesTaken byteTaken randomRead highs bitsIn byteOf
+unfolding loaded storedTo firstLocked phaseFits phasePulls risen latchWritten lockWritten written chipFits pulls reacted reactedArray sampled judged judgedArray next nextArray refusal step noteOf stepped notes eventOf answersOf spelled rightly arrayEffect rightEffect stopEffect effectMoved effectArray slaveTaken addressTaken arrayData registerData byteBegun byteEnded fallIn edgeOf afterPulses pulse pulsed recovered recoveryAnswer inRange same bits16 signed16 labelByte recordOf writeOf writtenOf isFree labelFits limitsFit heldOf readOf byteSent clocks bytesTaken byteTaken randomRead highs bitsIn byteOf
 computed = (tt, tt)
 
 -- "Worked on the bench": cases 1-12

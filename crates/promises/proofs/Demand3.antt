@@ -2,35 +2,43 @@
 -- Assumes nothing.
 use Prim.Native.Nat.{ℕ, _+_, _%_, _≤_}
 use mathlib.Core.Bool.{Bool, true, false}
-use mathlib.Core.List.{List}
+use mathlib.Core.List.{List, _++_}
 use mathlib.Core.Path.{_≡_, refl, ap, _∙_, sym, subst, subst₂}
-use lib.ListN.{getD}
-use Rattle.chip.specs.Chip.{chipFits, newChip}
+use native.Mathlib.Omega.{arith}
+use lib.ListN.{length, getD, drop}
+use Rattle.parts.specs.Sector.{Bytes}
+use Rattle.parts.proofs.PhaseLaws.{gotOf}
+use Rattle.parts.specs.declared.phase.Phase.the-variants.{Standby}
+use Rattle.chip.specs.Chip.{chipFits, atPowerUp}
 use Rattle.chip.specs.Event.{next, nextArray, refusal}
-use Rattle.chip.specs.Run.{World, world, step, lines}
+use Rattle.chip.specs.Run.{World, world, step}
 use Rattle.chip.specs.declared.wire.Event.the-variants.{ProgramDone}
 use Rattle.chip.proofs.EventLaws.{next-taken, taken-of, taken-so}
-use Rattle.chip.proofs.FitLaws.{new-fits, fits-of}
-use Rattle.chip.proofs.RunLaws.{ran-same, ran-taken, ran-guarded}
+use Rattle.chip.proofs.FitLaws.{up-fits, fits-of, fits-so}
+use Rattle.chip.proofs.RunLaws.{ran-same, ran-taken, ran-guarded, ran-bytes}
+use Rattle.chip.proofs.StepLaws.{none-octets}
 use Rattle.recovery.specs.Pulses.{Unchanged}
 use Rattle.recovery.specs.Recovery.{recovered, recoveryAnswer, recoveryArray}
 use Rattle.recovery.proofs.TenPulses.{first-high}
-use Rattle.recovery.proofs.Recovering.{recovery-keeps, recovery-starts}
-use Rattle.promises.specs.Demand3.{FromPowerUp, Scene, noisy, done, free, started, heard, Protected, Promised}
-use Rattle.promises.specs.RandomRead.{randomRead, pinned, Bytes, held, Returns}
-use Rattle.promises.proofs.Held.{held-same, held-bytes}
-use Rattle.promises.proofs.Octets.{ran-bytes}
-use Rattle.promises.proofs.RandomRead.{random-read, read-bytes}
+use Rattle.recovery.proofs.Recovering.{recovery-keeps, recovery-starts, recovery-taken}
+use Rattle.trace.specs.Trace.{answersOf, runAnswers}
+use Rattle.trace.proofs.RunLaws.{run-answers}
+use Rattle.messages.specs.RandomRead.{randomRead, held, Returns}
+use Rattle.messages.specs.Wires.{heardOf}
+use Rattle.messages.proofs.Held.{held-same, held-bytes}
+use Rattle.messages.proofs.RandomRead.{random-read, read-bytes}
+use Rattle.messages.proofs.Spelling.{spelled-events}
+use Rattle.promises.specs.Demand3.{FromPowerUp, Scene, noisy, done, free, atStart, theRead, heard, Protected, Promised}
 
 -- For any idle chip in range, in whatever state it is: after its recovery a random read at its own select is acknowledged and returns the
 -- bytes of its array
 pub freed-and-read : (pin : Bool) (w : World) → chipFits (w .chip) ≡ true → w .chip .busy ≡ false → (address n : ℕ) → address ≤ 0x3fff → (pins : ℕ → Bool)
-    → Returns n (lines (pinned pins (randomRead (w .chip .select) address n)) (recovered pin w)) (held (w .array) address n)
+    → Returns n (heardOf pins (randomRead (w .chip .select) address n) (recovered pin w)) (held (w .array) address n)
 freed-and-read pin w fits idle address n h pins =
     let v : World = recovered pin w in
     let keeps : Unchanged w v = recovery-keeps pin w in
     let select-in : v .chip .select ≤ 7 = subst (λ (k : ℕ). k ≤ 7) (sym (keeps .select)) (fits-of (w .chip) fits .select) in
-    subst₂ (λ (k : ℕ) (xs : List ℕ). Returns n (lines (pinned pins (randomRead k address n)) v) (held xs address n)) (keeps .select) (keeps .array)
+    subst₂ (λ (k : ℕ) (xs : List ℕ). Returns n (heardOf pins (randomRead k address n) v) (held xs address n)) (keeps .select) (keeps .array)
     (random-read v (recovery-starts pin w fits idle) select-in address n h pins)
 
 -- program-done ends busy
@@ -72,18 +80,25 @@ module _ (s : Scene) (w : World) (taken : refusal (w .chip) (w .array) ≡ 0) (p
   -- and the read returns them
   read-back : Returns (s .n) (heard s w) (held (w .array) (s .address) (s .n))
   read-back =
-      subst₂ (λ (k : ℕ) (bytes : List ℕ). Returns (s .n) (lines (pinned (s .pins) (randomRead k (s .address) (s .n))) (started s w)) bytes) select-same noise-keeps
+      subst₂ (λ (k : ℕ) (bytes : List ℕ). Returns (s .n) (heardOf (s .pins) (randomRead k (s .address) (s .n)) (atStart s w)) bytes) select-same noise-keeps
       (freed-and-read (s .pin) (done s w) done-in (done-idle (noisy s w)) (s .address) (s .n) (p .address-in) (s .pins))
 
   -- what the code answers
-  answers : recoveryAnswer (s .pin) (done s w .chip) (done s w .array) ≡ record { refusal = 0; chip = started s w .chip; pulses = free s w .pulses }
+  answers : recoveryAnswer (s .pin) (done s w .chip) (done s w .array) ≡ record { refusal = 0; chip = atStart s w .chip; pulses = free s w .pulses }
   unfolding recoveryAnswer
   answers = rw done-taken
 
   -- and leaves in the array
-  answers-array : recoveryArray (s .pin) (done s w .chip) (done s w .array) ≡ started s w .array
+  answers-array : recoveryArray (s .pin) (done s w .chip) (done s w .array) ≡ atStart s w .array
   unfolding recoveryArray
   answers-array = rw done-taken
+
+  -- the read is not refused either
+  reads : (room : List ℕ) → length (theRead s w) ≤ 65536 → length (theRead s w) ≤ length room
+      → runAnswers (atStart s w .chip) (atStart s w .array) (theRead s w) room ≡ answersOf (theRead s w) (atStart s w) ++ drop (length (theRead s w)) room
+  reads room few fits =
+      run-answers (atStart s w .chip) (atStart s w .array) (theRead s w) room (recovery-taken (s .pin) (done s w) done-taken) few fits
+      (spelled-events (s .pins) (randomRead (w .chip .select) (s .address) (s .n)))
 
 -- Demand 3 for any chip in range with an array of 16,384 bytes, however it came there
 pub protected-read : (s : Scene) (w : World) → refusal (w .chip) (w .array) ≡ 0 → Bytes (w .array) → Protected s w → Promised s w
@@ -95,6 +110,7 @@ protected-read s w taken b p =
       recovery-keeps = recovery-keeps (s .pin) (done s w);
       code-answers = answers s w taken p;
       code-array = answers-array s w taken p;
+      code-reads = reads s w taken p;
       acknowledged = back .acknowledged;
       bits = back .bits;
       bytes =
@@ -104,11 +120,12 @@ protected-read s w taken b p =
 
 -- Demand 3: take a chip run from power-up that is protected
 pub demand-3 : (s : Scene) (w : World) → FromPowerUp w → Protected s w → Promised s w
+unfolding gotOf
 demand-3 s w f p =
     protected-read s w
-    (rw (f .after-run) (ran-taken (f .run) new (taken-so (new .chip) (new .array) (f .array-whole) (new-fits (f .part) (f .select) (f .part-in) (f .select-in)))))
-    (rw (f .after-run) (ran-bytes (f .run) (f .part) (f .select) (f .array) (f .array-bytes)))
+    (rw (f .after-run) (ran-taken (f .run) up (taken-so (up .chip) (up .array) (f .array-whole) (fits-so (up .chip) (up-fits (f .part) (f .select) (f .ppen) (f .bl) (f .part-in) (f .select-in) (f .bl-in))))))
+    (rw (f .after-run) (ran-bytes (f .run) up (none-octets Standby (omega arith), f .array-bytes) .1))
     p
   where
-    new : World
-    new = world (newChip (f .part) (f .select)) (f .array)
+    up : World
+    up = world (atPowerUp (f .part) (f .select) (f .ppen) (f .bl)) (f .array)

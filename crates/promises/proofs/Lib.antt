@@ -1,10 +1,4 @@
 pub mod Cases
 pub mod Demand3
-pub mod Held
-pub mod Octets
 pub mod OneAnswer
-pub mod RandomRead
-pub mod Reading
-pub mod Sending
-pub mod Telling
 pub mod Witness

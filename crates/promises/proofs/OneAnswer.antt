@@ -8,8 +8,8 @@ use mathlib.Core.Path.{_≡_, sym, _∙_}
 use contract.Lifetimes.{Lfts}
 use denote.Ref.{now}
 use Rattle.parts.specs.Load.{noLoad, loaded, stored}
-use Rattle.parts.specs.Locks.{firstLocked}
-use Rattle.parts.specs.Phase.{received, bitOf, phaseFits, phasePulls, risen}
+use Rattle.parts.specs.Locks.{locked}
+use Rattle.parts.specs.Phase.{weight, received, bitOf, phaseFits, phasePulls, risen}
 use Rattle.parts.specs.Register.{registerByte, written}
 use Rattle.parts.specs.Sector.{sectorStart, nextPlace, nextAddress}
 use Rattle.parts.proofs.register
@@ -20,7 +20,7 @@ use Rattle.parts.proofs.phase
 use Rattle.chip.specs.Chip.{standardChip, made}
 use Rattle.chip.specs.Event.{next, nextArray, refusal, eventAnswer, eventArray}
 use Rattle.chip.proofs.chip.Chip
-use Rattle.trace.specs.Bytes.{eventOf, answerByte}
+use Rattle.trace.specs.Bytes.{eventOf, sampleByte, answerByte}
 use Rattle.trace.specs.Trace.{ranOf, runArray, runAnswers}
 use Rattle.trace.proofs as trace
 use Rattle.recovery.specs.Recovery.{recoveryAnswer, recoveryArray}
@@ -72,6 +72,10 @@ operations =
     one (whole 0 phase.bit_of.Kinds.ps phase.bit_of.Kinds.r phase.bit_of.Reads.Post)
     (λ κs (byte, (bit, end)). (bitOf byte bit, (tt, (tt, tt))))
     (λ κs input r left. alone)
+    -- parts::phase::weigh
+    ∷ one (whole 0 phase.weigh.Kinds.ps phase.weigh.Kinds.r phase.weigh.Reads.Post)
+    (λ κs (on, (worth, end)). (weight on worth, (tt, (tt, tt))))
+    (λ κs input r left p. alone (p .0))
     -- parts::phase::with_bit
     ∷ one (whole 0 phase.with_bit.Kinds.ps phase.with_bit.Kinds.r phase.with_bit.Reads.Post)
     (λ κs (got, (bit, end)). (received got bit, (tt, (tt, tt))))
@@ -96,9 +100,9 @@ operations =
     ∷ one (whole 0 register.Register.written.Kinds.ps register.Register.written.Kinds.r register.Register.written.Reads.Post)
     (λ κs (self, (byte, (pin, end))). (written self byte pin, (tt, (tt, (tt, tt)))))
     (λ κs input r left. alone)
-    -- parts::locks::first_locked
-    ∷ one (whole 0 locks.first_locked.Kinds.ps locks.first_locked.Kinds.r locks.first_locked.Reads.Post)
-    (λ κs (part, (bl, end)). (firstLocked part bl, (tt, (tt, tt))))
+    -- parts::locks::is_locked
+    ∷ one (whole 0 locks.is_locked.Kinds.ps locks.is_locked.Kinds.r locks.is_locked.Reads.Post)
+    (λ κs (part, (bl, (pin, (address, end)))). (locked part bl pin address, (tt, (tt, (tt, (tt, tt))))))
     (λ κs input r left. alone)
     -- parts::sector::sector_start
     ∷ one (whole 0 sector.sector_start.Kinds.ps sector.sector_start.Kinds.r sector.sector_start.Reads.Post)
@@ -147,6 +151,10 @@ operations =
     -- trace::event_of
     ∷ one (whole 0 trace.event_of.Kinds.ps trace.event_of.Kinds.r trace.event_of.Reads.Post)
     (λ κs (byte, end). (eventOf byte, (tt, tt)))
+    (λ κs input r left. alone)
+    -- trace::sample_byte
+    ∷ one (whole 0 trace.sample_byte.Kinds.ps trace.sample_byte.Kinds.r trace.sample_byte.Reads.Post)
+    (λ κs (scl, (sda, (pin, end))). (sampleByte scl sda pin, (tt, (tt, (tt, tt)))))
     (λ κs input r left. alone)
     -- trace::answer_byte
     ∷ one (whole 0 trace.answer_byte.Kinds.ps trace.answer_byte.Kinds.r trace.answer_byte.Reads.Post)

@@ -2,40 +2,45 @@
 -- lose a locked byte. Assumes nothing.
 use Prim.Native.Nat.{ℕ, _+_, _%_}
 use mathlib.Core.Bool.{true, false}
-use mathlib.Core.List.{List, [], _∷_, map}
+use mathlib.Core.List.{List, [], _∷_}
 use mathlib.Core.Path.{_≡_, refl, _∙_}
 use native.Mathlib.Omega.{arith}
 use lib.Dec.{leb·zero}
-use lib.ListN.{length, length-set, length-replicate, replicate, set}
+use lib.ListN.{length, length-set, length-replicate, set}
 use Rattle.parts.specs.Load.{loaded, storedTo}
 use Rattle.parts.specs.Locks.{firstLocked}
 use Rattle.parts.specs.Phase.{risen, phasePulls}
 use Rattle.parts.specs.Register.{written, latchWritten, lockWritten}
+use Rattle.parts.specs.Rows.{every, stepped}
+use Rattle.parts.specs.Sector.{Bytes, erased}
+use Rattle.parts.proofs.ByteLaws.{set-bytes, same-bytes}
 use Rattle.chip.specs.Chip.{pulls}
-use Rattle.chip.specs.Event.{next, nextArray, sampled, sampledArray, reacted, reactedArray}
-use Rattle.chip.specs.Run.{step, ran, lines}
+use Rattle.chip.specs.Event.{next, nextArray, sampled, judged, judgedArray, reacted, reactedArray}
+use Rattle.chip.specs.Run.{step, noteOf}
 use Rattle.chip.specs.Stop.{stopEffect, rightEffect, arrayEffect, rightly, effectMoved, effectArray}
 use Rattle.chip.specs.Transfer.{fallIn, slaveTaken, addressTaken, arrayData, registerData, byteBegun, byteEnded}
-use Rattle.chip.specs.View.{every, pinHigh, pinsHigh}
+use Rattle.chip.specs.View.{pinHigh, pinsHigh}
 use Rattle.chip.specs.Wire.{edgeOf}
 use Rattle.trace.specs.Bytes.{eventOf}
+use Rattle.trace.specs.Trace.{answersOf}
 use Rattle.recovery.specs.Recovery.{pulse, pulsed, recovered}
 use Rattle.promises.specs.Demand3.{FromPowerUp, free, heard, Protected, Promised}
-use Rattle.promises.specs.RandomRead.{Bytes, pinned, clocks, byteSent, byteTaken, bytesTaken, randomRead, highs, bitsIn, byteOf, held, bytesRead}
-use Rattle.promises.specs.Runs.{high, lowAtStop, registerSet, attack, cutRead, bench, registered, protected, unprotected, withstood, attacked, lows, Lost}
+use Rattle.messages.specs.Messages.{byteSent}
+use Rattle.messages.specs.RandomRead.{byteTaken, bytesTaken, randomRead, highs, bitsIn, held, bytesRead}
+use Rattle.messages.specs.Wires.{spelled, clocks, byteOf}
+use Rattle.promises.specs.Runs.{high, lowAtStop, registerSet, attack, cutRead, edged, registered, protected, unprotected, withstood, attacked, lows, Lost}
 use Rattle.promises.proofs.Demand3.{demand-3}
-use Rattle.promises.proofs.Octets.{set-bytes, same-bytes}
 
 -- the random read of two bytes from 3FFFh at select 5, as event bytes with the pin low: slave byte AAh, 3Fh, FFh, the restart, ABh, two bytes
-pub read-spelled : pinned (λ k. false) (randomRead 5 0x3fff 2) ≡ map eventOf
-    (2 ∷ 3 ∷ 0 ∷ 1 ∷ 2 ∷ 3 ∷ 0 ∷ 1 ∷ 2 ∷ 3 ∷ 0 ∷ 1 ∷ 2 ∷ 3 ∷ 0 ∷ 1 ∷ 2 ∷ 3
+pub read-spelled : spelled (λ k. false) (randomRead 5 0x3fff 2)
+    ≡ (2 ∷ 3 ∷ 0 ∷ 1 ∷ 2 ∷ 3 ∷ 0 ∷ 1 ∷ 2 ∷ 3 ∷ 0 ∷ 1 ∷ 2 ∷ 3 ∷ 0 ∷ 1 ∷ 2 ∷ 3
     ∷ 0 ∷ 1 ∷ 0 ∷ 1 ∷ 2 ∷ 3 ∷ 2 ∷ 3 ∷ 2 ∷ 3 ∷ 2 ∷ 3 ∷ 2 ∷ 3 ∷ 2 ∷ 3 ∷ 2 ∷ 3
     ∷ 2 ∷ 3 ∷ 2 ∷ 3 ∷ 2 ∷ 3 ∷ 2 ∷ 3 ∷ 2 ∷ 3 ∷ 2 ∷ 3 ∷ 2 ∷ 3 ∷ 2 ∷ 3 ∷ 2 ∷ 3
     ∷ 2 ∷ 3 ∷ 1
     ∷ 2 ∷ 3 ∷ 0 ∷ 1 ∷ 2 ∷ 3 ∷ 0 ∷ 1 ∷ 2 ∷ 3 ∷ 0 ∷ 1 ∷ 2 ∷ 3 ∷ 2 ∷ 3 ∷ 2 ∷ 3
     ∷ 2 ∷ 3 ∷ 2 ∷ 3 ∷ 2 ∷ 3 ∷ 2 ∷ 3 ∷ 2 ∷ 3 ∷ 2 ∷ 3 ∷ 2 ∷ 3 ∷ 2 ∷ 3 ∷ 0 ∷ 1
     ∷ 2 ∷ 3 ∷ 2 ∷ 3 ∷ 2 ∷ 3 ∷ 2 ∷ 3 ∷ 2 ∷ 3 ∷ 2 ∷ 3 ∷ 2 ∷ 3 ∷ 2 ∷ 3 ∷ 2 ∷ 3 ∷ [])
-unfolding pinned randomRead byteSent byteTaken bytesTaken clocks eventOf
+unfolding spelled randomRead byteSent byteTaken bytesTaken clocks
 read-spelled = refl
 
 -- what is computed of the runs
@@ -54,7 +59,7 @@ record Computed : Type 0 where
 
 -- all of it at once
 computed : Computed
-unfolding ran lines step next nextArray sampled sampledArray reacted reactedArray edgeOf pulls phasePulls risen fallIn slaveTaken addressTaken arrayData registerData byteBegun byteEnded stopEffect rightEffect arrayEffect rightly effectMoved effectArray firstLocked written latchWritten lockWritten loaded storedTo pinned clocks byteSent byteTaken bytesTaken randomRead highs bitsIn byteOf held every pinHigh pulse pulsed recovered registerSet attack cutRead bench lows
+unfolding stepped answersOf eventOf spelled noteOf step next nextArray sampled judged judgedArray reacted reactedArray edgeOf pulls phasePulls risen fallIn slaveTaken addressTaken arrayData registerData byteBegun byteEnded stopEffect rightEffect arrayEffect rightly effectMoved effectArray firstLocked written latchWritten lockWritten loaded storedTo clocks byteSent byteTaken bytesTaken randomRead highs bitsIn byteOf held every pinHigh pulse pulsed recovered registerSet attack cutRead edged lows
 computed =
     record {
       ppen = refl;
@@ -71,18 +76,18 @@ computed =
     }
 
 -- the array of the scenes is one of 16,384
-bench-whole : length bench ≡ 16384
-unfolding bench
-bench-whole =
-    let blank : List ℕ = replicate 16384 0xff in
-    length-set (set blank 0x0000 0x00) 0x3fff 0xa5 ∙ length-set blank 0x0000 0x00 ∙ length-replicate {A = ℕ} 16384 0xff
+edged-whole : length edged ≡ 16384
+unfolding edged
+edged-whole =
+    let blank : List ℕ = erased in
+    length-set (set blank 0x0000 0x00) 0x3fff 0xa5 ∙ length-set blank 0x0000 0x00 ∙ length-replicate {A = ℕ} 0x4000 0xff
 
 -- bytes
-bench-bytes : Bytes bench
-unfolding bench
-bench-bytes =
-    set-bytes (set (replicate 16384 0xff) 0x0000 0x00) 0x3fff 0xa5
-    (set-bytes (replicate 16384 0xff) 0x0000 0x00 (same-bytes 16384 0xff (omega arith)) (omega arith))
+edged-bytes : Bytes edged
+unfolding edged
+edged-bytes =
+    set-bytes (set (erased) 0x0000 0x00) 0x3fff 0xa5
+    (set-bytes (erased) 0x0000 0x00 (same-bytes 0x4000 0xff (omega arith)) (omega arith))
     (omega arith)
 
 -- a chip with any register byte is one run from power-up
@@ -91,12 +96,15 @@ registered-up byte =
     record {
       part = 0;
       select = 5;
-      array = bench;
+      ppen = false;
+      bl = 0;
+      array = edged;
       run = registerSet 5 high byte;
       part-in = omega arith;
       select-in = omega arith;
-      array-whole = bench-whole;
-      array-bytes = bench-bytes;
+      bl-in = omega arith;
+      array-whole = edged-whole;
+      array-bytes = edged-bytes;
       after-run = refl;
     }
 

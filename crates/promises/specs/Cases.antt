@@ -1,6 +1,5 @@
--- The worked cases 1-12, each a test that computes, and the four errors as tests that the wrong reading fails. A case of the chip is a run from
--- power-up, message by message, each clocked as case 13 clocks it, over an array of 16,384 bytes.
--- (The paper, "Worked on the bench" and "Errors that look right".)
+-- The worked cases 1-12, each a test that computes, and the four mistakes as tests that the wrong reading fails. A case of the chip is a run from
+-- power-up, message by message, each clocked as case 13 clocks it, over an array of 16,384 bytes. (RULES, worked cases, and M1-M4.)
 --
 -- | Name | Meaning |
 -- |---|---|
@@ -10,7 +9,7 @@
 -- | `samples`, `sent` | the events of wires with the pin at one level; what they leave, the pin low |
 -- | `loud`, `told` | the notes other than 0, in order; those of wires |
 -- | `reads address n` | the n bytes that a random read gives |
--- | `erased`, `fresh part` | 16,384 bytes of FFh; a new chip of a part with select 0 and such an array |
+-- | `fresh part` | a new chip of a part with select 0, over an array of FFh |
 -- | `enabled`, `locking byte` | the same with PEL set; the same with PPEN and BL written, the cycle done |
 -- | `changes` | the addresses at which two arrays differ |
 -- | `buffer`, `north`, `travelled` | a free record as a buffer; the label of case 4; the travel that a written record is read with |
@@ -21,24 +20,26 @@
 -- | `error-1` to `error-4`, `errors` | the errors; the list of them |
 use Prim.Native.Nat.{ℕ, zero, suc}
 use mathlib.Core.Bool.{Bool, true, false, not, cond, _&&_}
-use mathlib.Core.List.{List, [], _∷_, _++_, map}
+use mathlib.Core.List.{List, [], _∷_, _++_}
 use lib.Dec.{eqb}
 use lib.IntN.{ℤ, pos, negℤ}
 use lib.ListN.{take, drop, set, replicate}
+use Rattle.parts.specs.Locks.{locked}
 use Rattle.parts.specs.Register.{registerByte}
+use Rattle.parts.specs.Sector.{erased}
 use Rattle.chip.specs.Chip.{newChip}
-use Rattle.chip.specs.Run.{World, world, step, ran, lines, notes}
-use Rattle.chip.specs.Stop.{locked}
+use Rattle.chip.specs.Run.{World, world, step, ran, notes}
 use Rattle.chip.specs.declared.wire.Event.{Event}
 use Rattle.chip.specs.declared.wire.Event.the-variants.{ProgramDone, PowerUp}
 use Rattle.recovery.specs.Pulses.{afterPulses}
-use Rattle.recovery.specs.Recovery.{sample, recoveryAnswer}
+use Rattle.recovery.specs.Recovery.{recoveryAnswer}
 use Rattle.gate.specs.Limit.{same}
 use Rattle.gate.specs.Reading.{readOf}
 use Rattle.gate.specs.Values.{givenOf}
 use Rattle.gate.specs.Writing.{writeOf, writtenOf}
-use Rattle.promises.specs.Messages.{begin, message, registerWrite}
-use Rattle.promises.specs.RandomRead.{Wires, wiresOf, clocks, bitsOf, randomRead, bytesRead}
+use Rattle.messages.specs.Messages.{begin, message, registerWrite}
+use Rattle.messages.specs.RandomRead.{randomRead, bytesRead}
+use Rattle.messages.specs.Wires.{Wires, wiresOf, played, heardOf, clocks, bitsOf}
 
 -- the paper's number, and whether its test passes
 pub record Case : Type 0 where
@@ -68,7 +69,7 @@ upFrom (suc n) first = first ∷ upFrom n (suc first)
 
 -- one sample for each
 abbrev pub samples : Bool → List Wires → List Event
-samples pin wires = map (λ w. sample (w .scl) (w .sda) pin) wires
+samples pin wires = played (λ k. pin) wires
 
 -- chip and array after them
 abbrev pub sent : List Wires → World → World
@@ -85,11 +86,7 @@ told wires w = loud (notes (samples false wires) w)
 
 -- START, then the random read; what is heard of the START's two events is no part of it
 abbrev pub reads : ℕ → ℕ → World → List ℕ
-reads address n w = bytesRead n (drop 2 (lines (samples false (begin ++ randomRead 0 address n)) w))
-
--- the array of the bench
-abbrev pub erased : List ℕ
-erased = replicate 16384 0xff
+reads address n w = bytesRead n (drop 2 (heardOf (λ k. false) (begin ++ randomRead 0 address n) w))
 
 -- a new chip is at power-up, with PPEN 0 and BL 0
 abbrev pub fresh : ℕ → World
@@ -177,8 +174,8 @@ case-7 =
 -- the address is locked and the one below is not; so say the notes of 32 bytes written to each
 abbrev pub begins : World → ℕ → ℕ → Bool
 begins w first below =
-    locked (w .chip) false first
-    && not (locked (w .chip) false below)
+    locked (w .chip .part) (w .chip .register .bl) false first
+    && not (locked (w .chip .part) (w .chip .register .bl) false below)
     && agree (told (message 0 first (upFrom 32 1)) w) (4 ∷ [])
     && agree (told (message 0 below (upFrom 32 1)) w) (1 ∷ [])
 

@@ -5,36 +5,42 @@
 -- | `FromPowerUp` | a chip run from power-up |
 -- | `Scene` | what comes to a chip: the noise, the pin levels, the read; all of it is arbitrary |
 -- | `noisy`, `done` | a chip and its array after the noise; after one program-done more |
--- | `free`, `started` | pulsed until the line is high; with the start made there |
--- | `heard` | the line after each event of the random read |
+-- | `free`, `atStart` | pulsed until the line is high; with the start made there |
+-- | `theRead`, `heard` | the event bytes of the random read; the line after each, as a trace answers it |
 -- | `Protected` | what the sentence takes of the chip and the scene |
 -- | `Promised` | what it promises of them |
 use Prim.Native.Nat.{ℕ, _+_, _%_, _≤_, _<_}
 use mathlib.Core.Bool.{Bool, true}
-use mathlib.Core.List.{List, map}
+use mathlib.Core.List.{List, _++_, map}
 use mathlib.Core.Path.{_≡_}
-use lib.ListN.{length}
-use Rattle.chip.specs.Chip.{newChip}
-use Rattle.chip.specs.Run.{World, world, step, ran, lines}
-use Rattle.chip.specs.Stop.{locked}
-use Rattle.chip.specs.View.{pinsHigh}
+use lib.ListN.{length, drop}
+use Rattle.parts.specs.Locks.{locked}
+use Rattle.parts.specs.Sector.{Bytes}
+use Rattle.chip.specs.Chip.{atPowerUp}
+use Rattle.chip.specs.Run.{World, world, step, ran}
+use Rattle.chip.specs.View.{pinsHigh, SeesStart}
 use Rattle.chip.specs.declared.wire.Event.{Event}
 use Rattle.chip.specs.declared.wire.Event.the-variants.{ProgramDone}
-use Rattle.recovery.specs.Pulses.{FirstHigh, Unchanged, SeesStart}
+use Rattle.recovery.specs.Pulses.{FirstHigh, Unchanged}
 use Rattle.recovery.specs.Recovery.{Freed, freed, recovered, recoveryAnswer, recoveryArray}
-use Rattle.promises.specs.RandomRead.{randomRead, pinned, Acknowledged, Bytes, bitsOf, bitsRead, bytesRead, held}
+use Rattle.trace.specs.Trace.{answersOf, runAnswers}
+use Rattle.messages.specs.RandomRead.{randomRead, Acknowledged, bitsRead, bytesRead, held}
+use Rattle.messages.specs.Wires.{spelled, heardOf, bitsOf}
 
--- a new chip of either part with any select, any array of 16,384 bytes, and whatever events came since
+-- a chip of either part as power-up leaves it, with any select, PPEN and BL, any array of 16,384 bytes, and whatever events came since
 pub record FromPowerUp (w : World) : Type 0 where
   pub part : ℕ
   pub select : ℕ
+  pub ppen : Bool
+  pub bl : ℕ
   pub array : List ℕ
   pub run : List Event
   pub part-in : part ≤ 1
   pub select-in : select ≤ 7
+  pub bl-in : bl ≤ 3
   pub array-whole : length array ≡ 16384
   pub array-bytes : Bytes array
-  pub after-run : w ≡ ran run (world (newChip part select) array)
+  pub after-run : w ≡ ran run (world (atPowerUp part select ppen bl) array)
 
 -- none of it is bound to the chip
 pub record Scene : Type 0 where
@@ -59,12 +65,16 @@ abbrev pub free : Scene → World → Freed
 free s w = freed (s .pin) (done s w)
 
 -- made at the first high pulse
-abbrev pub started : Scene → World → World
-started s w = recovered (s .pin) (done s w)
+abbrev pub atStart : Scene → World → World
+atStart s w = recovered (s .pin) (done s w)
 
--- from that start on, at the chip's own select
+-- at the chip's own select
+abbrev pub theRead : Scene → World → List ℕ
+theRead s w = spelled (s .pins) (randomRead (w .chip .select) (s .address) (s .n))
+
+-- from that start on
 abbrev pub heard : Scene → World → List Bool
-heard s w = lines (pinned (s .pins) (randomRead (w .chip .select) (s .address) (s .n))) (started s w)
+heard s w = heardOf (s .pins) (randomRead (w .chip .select) (s .address) (s .n)) (atStart s w)
 
 -- the chip before the noise, the noise, and where the read goes
 pub record Protected (s : Scene) (w : World) : Type 0 where
@@ -75,19 +85,25 @@ pub record Protected (s : Scene) (w : World) : Type 0 where
   pub pin-high : pinsHigh (s .noise) ≡ true
   -- the read begins in the array, and each address that it comes to, 0000h after 3FFFh, is locked
   pub address-in : s .address ≤ 0x3fff
-  pub stays-locked : (k : ℕ) → k < s .n → locked (w .chip) true ((s .address + k) % 0x4000) ≡ true
+  pub stays-locked : (k : ℕ) → k < s .n → locked (w .chip .part) (w .chip .register .bl) true ((s .address + k) % 0x4000) ≡ true
 
 -- the recovery, then the read
 pub record Promised (s : Scene) (w : World) : Type 0 where
   -- ten pulses are enough to get a high line, and the number reported is that of the first
   pub line-high : FirstHigh (s .pin) (done s w) (free s w .pulses) (free s w .world)
   -- the chip sees the start that is made there
-  pub start-seen : SeesStart (started s w .chip)
+  pub start-seen : SeesStart (atStart s w .chip)
   -- recovery leaves every byte of the array and PPEN, BL, RPEL and PEL
-  pub recovery-keeps : Unchanged (done s w) (started s w)
+  pub recovery-keeps : Unchanged (done s w) (atStart s w)
   -- it is the recovery that the code answers: not refused, with this chip, this number and this array
-  pub code-answers : recoveryAnswer (s .pin) (done s w .chip) (done s w .array) ≡ record { refusal = 0; chip = started s w .chip; pulses = free s w .pulses }
-  pub code-array : recoveryArray (s .pin) (done s w .chip) (done s w .array) ≡ started s w .array
+  pub code-answers : recoveryAnswer (s .pin) (done s w .chip) (done s w .array) ≡ record { refusal = 0; chip = atStart s w .chip; pulses = free s w .pulses }
+  pub code-array : recoveryArray (s .pin) (done s w .chip) (done s w .array) ≡ atStart s w .array
+  -- the read is a trace that the code takes, where it is no longer than a trace may be and has room: its answers are those that are heard
+  pub code-reads :
+      (room : List ℕ)
+      → length (theRead s w) ≤ 65536
+      → length (theRead s w) ≤ length room
+      → runAnswers (atStart s w .chip) (atStart s w .array) (theRead s w) room ≡ answersOf (theRead s w) (atStart s w) ++ drop (length (theRead s w)) room
   -- the chip acknowledges each of the four bytes that the master sends
   pub acknowledged : Acknowledged (heard s w)
   -- the line's bits are those of the bytes that stood there before the noise, and make these bytes

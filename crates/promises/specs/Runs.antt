@@ -6,7 +6,7 @@
 -- | `registerSet` | PEL, RPEL, then a register byte and its cycle |
 -- | `attack` | a register byte that clears PPEN and BL, then 55h to address 0000h and its cycle |
 -- | `cutRead` | a slave byte with read, cut with SCL low in its acknowledge |
--- | `bench` | an array of FFh with 00h at its first address and A5h at its last |
+-- | `edged` | an array of FFh with 00h at its first address and A5h at its last |
 -- | `registered`, `protected`, `unprotected` | a chip with a register byte, run from power-up; PPEN 1 and BL 3; PPEN 0 and BL 3 |
 -- | `withstood` | the attack with the pin high, a power-up and a cut read; two bytes read over the roll-over |
 -- | `attacked` | the attack with these pins in its register byte; one byte read |
@@ -17,16 +17,18 @@ use mathlib.Core.Bool.{Bool, true, false, not, cond}
 use mathlib.Core.List.{List, [], _∷_, _++_}
 use mathlib.Core.Path.{_≡_}
 use lib.Dec.{eqb}
-use lib.ListN.{set, replicate}
+use lib.ListN.{set}
+use Rattle.parts.specs.Locks.{locked}
+use Rattle.parts.specs.Sector.{erased}
 use Rattle.chip.specs.Chip.{newChip}
 use Rattle.chip.specs.Run.{World, world, ran}
-use Rattle.chip.specs.Stop.{locked}
 use Rattle.chip.specs.View.{pinHigh}
 use Rattle.chip.specs.declared.wire.Event.{Event}
 use Rattle.chip.specs.declared.wire.Event.the-variants.{ProgramDone, PowerUp}
 use Rattle.promises.specs.Demand3.{Scene, heard}
-use Rattle.promises.specs.Messages.{begin, message, registerWrite}
-use Rattle.promises.specs.RandomRead.{wiresOf, clocks, bitsOf, slaveByte, pinned, bytesRead, held}
+use Rattle.messages.specs.Messages.{begin, message, registerWrite, slaveByte}
+use Rattle.messages.specs.RandomRead.{bytesRead, held}
+use Rattle.messages.specs.Wires.{wiresOf, played, clocks, bitsOf}
 
 -- the pin high in every sample
 abbrev pub high : ℕ → Bool
@@ -39,26 +41,26 @@ lowAtStop k = not (eqb k 76)
 -- 02h sets PEL, 06h RPEL; then the register byte, with these pins, and its cycle
 unfoldable pub registerSet : ℕ → (ℕ → Bool) → ℕ → List Event
 registerSet select pins byte =
-    pinned high (registerWrite select 0x02)
-    ++ pinned high (registerWrite select 0x06)
-    ++ pinned pins (registerWrite select byte)
+    played high (registerWrite select 0x02)
+    ++ played high (registerWrite select 0x06)
+    ++ played pins (registerWrite select byte)
     ++ (ProgramDone ∷ [])
 
 -- 02h as a register byte is PPEN 0 and BL 0
 unfoldable pub attack : ℕ → (ℕ → Bool) → List Event
-attack select pins = registerSet select pins 0x02 ++ pinned high (message select 0x0000 (0x55 ∷ [])) ++ (ProgramDone ∷ [])
+attack select pins = registerSet select pins 0x02 ++ played high (message select 0x0000 (0x55 ∷ [])) ++ (ProgramDone ∷ [])
 
 -- case 11's cut: eight bits, and the low half of the ninth clock
 unfoldable pub cutRead : ℕ → List Event
-cutRead select = pinned high (begin ++ clocks (bitsOf (slaveByte select true)) ++ (wiresOf 2 ∷ []))
+cutRead select = played high (begin ++ clocks (bitsOf (slaveByte select true)) ++ (wiresOf 2 ∷ []))
 
 -- an array of 16,384 bytes
-unfoldable pub bench : List ℕ
-bench = set (set (replicate 16384 0xff) 0x0000 0x00) 0x3fff 0xa5
+unfoldable pub edged : List ℕ
+edged = set (set erased 0x0000 0x00) 0x3fff 0xa5
 
 -- an X24128 at select 5 with this register byte, run from power-up
 abbrev pub registered : ℕ → World
-registered byte = ran (registerSet 5 high byte) (world (newChip 0 5) bench)
+registered byte = ran (registerSet 5 high byte) (world (newChip 0 5) edged)
 
 -- 9Ah is PPEN 1 and BL 3
 abbrev pub protected : World
@@ -83,6 +85,6 @@ lows (e ∷ es) = cond (pinHigh e) 0 1 + lows es
 
 -- the byte at the scene's address was locked and held `kept`, and the read returns `read`
 pub record Lost (s : Scene) (w : World) (kept read : ℕ) : Type 0 where
-  pub locked-before : locked (w .chip) true (s .address) ≡ true
+  pub locked-before : locked (w .chip .part) (w .chip .register .bl) true (s .address) ≡ true
   pub held-before : held (w .array) (s .address) 1 ≡ kept ∷ []
   pub read-after : bytesRead 1 (heard s w) ≡ read ∷ []

@@ -3,12 +3,14 @@
 use Prim.Native.Nat.{ℕ, zero, suc}
 use mathlib.Core.Bool.{Bool, true, false}
 use mathlib.Core.Path.{_≡_, refl, _∙_, ap, subst}
+use lib.ListN.{length}
 use Rattle.parts.specs.Phase.{phasePulls}
 use Rattle.chip.specs.Chip.{chipFits, pulls, withLevels}
-use Rattle.chip.specs.Event.{next, nextArray, sampled, judged, judgedArray, reacted}
+use Rattle.chip.specs.Event.{next, nextArray, sampled, judged, judgedArray, reacted, refusal}
 use Rattle.chip.specs.Run.{World, world, step}
 use Rattle.chip.specs.View.{SeesStart}
 use Rattle.chip.specs.Wire.{sample}
+use Rattle.chip.proofs.EventLaws.{taken-of, taken-so}
 use Rattle.chip.proofs.Posed.{posed-so}
 use Rattle.chip.proofs.RangeLaws.{next-fits}
 use Rattle.recovery.specs.Recovery.{pulse, pulsed, freed, recovered}
@@ -64,6 +66,12 @@ recovery-fits pin w h = go (counted 9 1 pin w)
   where
     go : Counted 9 1 pin w (freed pin w) → chipFits (recovered pin w .chip) ≡ true
     go c = next-fits (sample true false pin) (freed pin w .world .chip) (freed pin w .world .array) (rw (c .there) (pulses-fit (suc (c .n)) pin w h))
+
+-- and after it nothing is refused that was not before
+pub recovery-taken : (pin : Bool) (w : World) → refusal (w .chip) (w .array) ≡ 0 → refusal (recovered pin w .chip) (recovered pin w .array) ≡ 0
+recovery-taken pin w h =
+    let t = taken-of (w .chip) (w .array) h in
+    taken-so (recovered pin w .chip) (recovered pin w .array) (ap length (recovery-keeps pin w .array) ∙ t .0) (recovery-fits pin w (t .1))
 
 -- a busy chip reports 1 and ignores the START: it tracks the levels, and nothing else
 pub busy-recovery : (pin : Bool) (w : World) → w .chip .busy ≡ true

@@ -14,7 +14,7 @@ use Rattle.chip.specs.Event.{next, nextArray, refusal}
 use Rattle.chip.specs.Run.{World, world, step, noteOf}
 use Rattle.chip.specs.declared.chip.Chip.{Chip}
 use Rattle.trace.specs.Bytes.{eventOf, allEvents, answerByte}
-use Rattle.trace.specs.Trace.{after, answersOf, runRefusal, unless, ranOf, runArray}
+use Rattle.trace.specs.Trace.{after, answersOf, runRefusal, unless, ranOf, runArray, runAnswers}
 
 -- what is left of the test of a row, at the byte that comes
 module _ (bytes : List ℕ) (i : ℕ) (h : i < length bytes) where
@@ -93,13 +93,14 @@ run-room c xs bytes room h =
     leb-true (length bytes) room
     (room-of (refusal c xs) (eqb (refusal c xs) 0) (leb (length bytes) 65536) (leb (length bytes) room) (allEvents bytes) refl h)
 
--- a chip in range over a whole array takes every row of event bytes that is short enough and has room, and is left as the events leave it
-pub run-whole :
-    (c : Chip) (xs bytes old : List ℕ)
-    → refusal c xs ≡ 0
-    → length bytes ≤ 65536
-    → length bytes ≤ length old
-    → allEvents bytes ≡ true
-    → world (ranOf c xs bytes old .chip) (runArray c xs bytes old) ≡ after bytes (world c xs)
-unfolding ranOf runArray unless runRefusal
-run-whole c xs bytes old taken few fits events = rw (taken, le-leb _ _ few, le-leb _ _ fits, events)
+-- a chip in range over a whole array takes every row of event bytes that is short enough and has room
+module _ (c : Chip) (xs bytes old : List ℕ) (taken : refusal c xs ≡ 0) (few : length bytes ≤ 65536) (fits : length bytes ≤ length old) (events : allEvents bytes ≡ true) where
+  -- and is left as the events leave it
+  pub run-whole : world (ranOf c xs bytes old .chip) (runArray c xs bytes old) ≡ after bytes (world c xs)
+  unfolding ranOf runArray unless runRefusal
+  run-whole = rw (taken, le-leb _ _ few, le-leb _ _ fits, events)
+
+  -- with an answer byte for each
+  pub run-answers : runAnswers c xs bytes old ≡ answersOf bytes (world c xs) ++ drop (length bytes) old
+  unfolding runAnswers unless runRefusal
+  run-answers = rw (taken, le-leb _ _ few, le-leb _ _ fits, events)

@@ -1,64 +1,29 @@
--- The random read as the master makes it, event by event, and what is heard of it on the line. (The paper, "Transfers", under Read.)
+-- The random read as the master makes it, and what is heard of it on the line. (RULES W6-W9.)
 --
 -- | Name | Meaning |
 -- |---|---|
--- | `Wires` | SCL and the master's SDA in a sample; the pin is not in it |
--- | `wiresOf` | the wires of an event byte |
--- | `clock`, `clocks` | one clock: SCL low, then high, with one SDA in both; one for each level of SDA |
--- | `bitsOf`, `byteSent` | the bits of a byte, most significant first; the nine clocks of a byte that the master sends |
 -- | `restart` | the events 2, 3, 1 |
 -- | `byteTaken`, `bytesTaken n` | the nine clocks of a byte that the master reads; of n bytes |
--- | `slaveByte` | 1010, the select, read or write |
 -- | `randomRead select address n` | the random read of n bytes from an address |
--- | `pinned pins` | the samples of these wires, `pins k` the pin in the k-th |
 -- | `AckAt`, `Acknowledged` | the line is low in the ninth clock of a byte; of the four bytes that the master sends |
 -- | `highs`, `bitsIn n` | the line in the high half of each clock; in the eight clocks of each of n bytes |
--- | `byteOf` | the byte that bits make, with what was received before |
 -- | `bitsRead n`, `bytesRead n` | the bits of each byte read; the bytes that they make |
--- | `Bytes` | a list of bytes |
 -- | `held xs address n` | the n bytes that an array holds from an address on, 3FFFh followed by 0000h |
 -- | `Returns` | the read was acknowledged, and the line's bits were those of these bytes |
-use Prim.Native.Nat.{ℕ, zero, suc, _+_, _*_, _/_, _%_, _<_}
+use Prim.Native.Nat.{ℕ, zero, suc, _+_, _/_, _%_}
 use mathlib.Core.Bool.{Bool, true, false, not}
 use mathlib.Core.List.{List, [], _∷_, _++_, map}
 use mathlib.Core.Path.{_≡_}
 use lib.ListN.{getD, take, drop}
-use Rattle.parts.specs.Phase.{weight, received, bitOf}
 use Rattle.parts.specs.Sector.{nextAddress}
-use Rattle.chip.specs.declared.wire.Event.{Event}
-use Rattle.recovery.specs.Recovery.{sample}
+use Rattle.messages.specs.Messages.{byteSent, slaveByte}
+use Rattle.messages.specs.Wires.{Wires, wiresOf, clock, clocks, bitsOf, byteOf}
 
--- SDA is the master's: true where it lets go
-pub record Wires : Type 0 where
-  pub scl : Bool
-  pub sda : Bool
-
--- as the trace numbers them, the pin's bit passed over
-abbrev pub wiresOf : ℕ → Wires
-wiresOf byte = record { scl = bitOf byte 0; sda = bitOf byte 1 }
-
--- the level stands in both samples
-abbrev pub clock : Bool → List Wires
-clock sda = record { scl = false; sda = sda } ∷ record { scl = true; sda = sda } ∷ []
-
--- bit 7 goes first
-abbrev pub bitsOf : ℕ → List Bool
-bitsOf byte = bitOf byte 7 ∷ bitOf byte 6 ∷ bitOf byte 5 ∷ bitOf byte 4 ∷ bitOf byte 3 ∷ bitOf byte 2 ∷ bitOf byte 1 ∷ bitOf byte 0 ∷ []
-
--- one after the other
-unfoldable pub clocks : List Bool → List Wires
-clocks [] = []
-clocks (sda ∷ rest) = clock sda ++ clocks rest
-
--- as case 13 clocks it: eight bits, then a clock that leaves SDA to the chip
-unfoldable pub byteSent : ℕ → List Wires
-byteSent byte = clocks (bitsOf byte) ++ clock true
-
--- the fall ends the last acknowledge, and with the clock high again SDA is pulled: a second START
+-- W6: the fall ends the last acknowledge, and with the clock high again SDA is pulled: a second START
 abbrev pub restart : List Wires
 restart = wiresOf 2 ∷ wiresOf 3 ∷ wiresOf 1 ∷ []
 
--- SDA is the chip's for eight bits; in the ninth the master pulls it to ask for another byte
+-- W7: SDA is the chip's for eight bits; in the ninth the master pulls it to ask for another byte
 unfoldable pub byteTaken : Bool → List Wires
 byteTaken another = clocks (true ∷ true ∷ true ∷ true ∷ true ∷ true ∷ true ∷ true ∷ []) ++ clock (not another)
 
@@ -68,11 +33,7 @@ bytesTaken zero = []
 bytesTaken (suc zero) = byteTaken false
 bytesTaken (suc (suc n)) = byteTaken true ++ bytesTaken (suc n)
 
--- the lowest bit is 1 for reading
-abbrev pub slaveByte : ℕ → Bool → ℕ
-slaveByte select reads = 0b1010 * 16 + select * 2 + weight reads 1
-
--- its START stands before it: the chip is told the address in writing, then addressed again for reading
+-- W8: its START stands before it: the chip is told the address in writing, then addressed again for reading
 unfoldable pub randomRead : ℕ → ℕ → ℕ → List Wires
 randomRead select address n =
     byteSent (slaveByte select false)
@@ -82,12 +43,7 @@ randomRead select address n =
     ++ byteSent (slaveByte select true)
     ++ bytesTaken n
 
--- no sample says anything of the pin, so every level of it is allowed
-unfoldable pub pinned : (ℕ → Bool) → List Wires → List Event
-pinned pins [] = []
-pinned pins (w ∷ rest) = sample (w .scl) (w .sda) (pins 0) ∷ pinned (λ k. pins (suc k)) rest
-
--- the byte's first event is number `first`; the chip holds the line in both halves of its ninth clock
+-- W9: the byte's first event is number `first`; the chip holds the line in both halves of its ninth clock
 pub record AckAt (first : ℕ) (heard : List Bool) : Type 0 where
   pub low-half : getD heard (first + 16) true ≡ false
   pub high-half : getD heard (first + 17) true ≡ false
@@ -110,11 +66,6 @@ unfoldable pub bitsIn : ℕ → List Bool → List (List Bool)
 bitsIn zero heard = []
 bitsIn (suc n) heard = highs (take 16 heard) ∷ bitsIn n (drop 18 heard)
 
--- bit by bit, as a chip receives them
-unfoldable pub byteOf : ℕ → List Bool → ℕ
-byteOf got [] = got
-byteOf got (bit ∷ rest) = byteOf (received got bit) rest
-
 -- 75 events come first: four bytes sent, and the restart
 abbrev pub bitsRead : ℕ → List Bool → List (List Bool)
 bitsRead n heard = bitsIn n (drop 75 heard)
@@ -122,10 +73,6 @@ bitsRead n heard = bitsIn n (drop 75 heard)
 -- as numbers
 abbrev pub bytesRead : ℕ → List Bool → List ℕ
 bytesRead n heard = map (byteOf 0) (bitsRead n heard)
-
--- each below 256
-abbrev pub Bytes : List ℕ → Type 0
-Bytes xs = (k : ℕ) → getD xs k 0 < 256
 
 -- address after address, as the counter goes
 unfoldable pub held : List ℕ → ℕ → ℕ → List ℕ

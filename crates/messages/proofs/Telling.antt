@@ -3,9 +3,16 @@ use Prim.Native.Nat.{ℕ, suc}
 use mathlib.Core.Bool.{Bool}
 use mathlib.Core.List.{List, [], _∷_, _++_}
 use mathlib.Core.Path.{_≡_, refl, ap, _∙_}
+use Rattle.parts.specs.Rows.{stepped}
 use Rattle.chip.specs.Run.{World, step, ran, lines}
-use Rattle.recovery.specs.Recovery.{sample}
-use Rattle.promises.specs.RandomRead.{Wires, pinned}
+use Rattle.chip.specs.Wire.{sample}
+use Rattle.chip.specs.declared.wire.Event.{Event}
+use Rattle.messages.specs.Wires.{Wires}
+
+-- the samples of wires, `pins k` the pin in the k-th
+unfoldable pub pinned : (ℕ → Bool) → List Wires → List Event
+pinned pins [] = []
+pinned pins (w ∷ rest) = sample (w .scl) (w .sda) (pins 0) ∷ pinned (λ k. pins (suc k)) rest
 
 -- the wires lead from w to w′, and the line was heard so after each sample
 pub record Says (w : World) (wires : List Wires) (heard : List Bool) (w′ : World) : Type 0 where
@@ -20,14 +27,14 @@ past (w ∷ rest) pins = past rest (λ k. pins (suc k))
 -- where two rows lead
 ran-on : (first second : List Wires) (pins : ℕ → Bool) (w : World)
     → ran (pinned pins (first ++ second)) w ≡ ran (pinned (past first pins) second) (ran (pinned pins first) w)
-unfolding ran pinned past
+unfolding stepped pinned past
 ran-on [] second pins w = refl
 ran-on (x ∷ first) second pins w = ran-on first second (λ k. pins (suc k)) (step (sample (x .scl) (x .sda) (pins 0)) w)
 
 -- what is heard of them
 lines-on : (first second : List Wires) (pins : ℕ → Bool) (w : World)
     → lines (pinned pins (first ++ second)) w ≡ lines (pinned pins first) w ++ lines (pinned (past first pins) second) (ran (pinned pins first) w)
-unfolding ran lines pinned past
+unfolding stepped lines pinned past
 lines-on [] second pins w = refl
 lines-on (x ∷ first) second pins w =
     let v : World = step (sample (x .scl) (x .sda) (pins 0)) w in

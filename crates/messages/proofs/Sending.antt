@@ -13,15 +13,18 @@ use Rattle.parts.specs.declared.load.Load.{Load}
 use Rattle.parts.specs.declared.phase.Phase.{Phase}
 use Rattle.parts.specs.declared.phase.Phase.the-variants.{Slave, First, Second, AckWrite, AckRead, AckFirst, AckByte}
 use Rattle.parts.proofs.CondLaws.{and-left, and-right}
-use Rattle.chip.specs.Chip.{pulls}
-use Rattle.chip.specs.Event.{next, nextArray, sampled, sampledArray, reacted, reactedArray}
-use Rattle.chip.specs.Run.{World, world, step, ran, lines}
-use Rattle.chip.specs.Transfer.{withTransfer, fallIn, slaveTaken, addressTaken}
+use Rattle.parts.specs.Rows.{stepped}
+use Rattle.chip.specs.Chip.{pulls, withTransfer}
+use Rattle.chip.specs.Event.{next, nextArray, sampled, judged, judgedArray, reacted, reactedArray}
+use Rattle.chip.specs.Run.{World, world, step, lines}
+use Rattle.chip.specs.Transfer.{fallIn, slaveTaken, addressTaken}
 use Rattle.chip.specs.Wire.{edgeOf}
 use Rattle.chip.specs.declared.chip.Chip.{Chip}
-use Rattle.recovery.proofs.Posed.{posed}
-use Rattle.promises.specs.RandomRead.{clock, clocks, pinned, bitsOf, byteOf, byteSent, slaveByte, restart}
-use Rattle.promises.proofs.Telling.{Says, then}
+use Rattle.chip.proofs.Posed.{posed}
+use Rattle.messages.specs.Messages.{byteSent, slaveByte}
+use Rattle.messages.specs.RandomRead.{restart}
+use Rattle.messages.specs.Wires.{clock, clocks, bitsOf, byteOf}
+use Rattle.messages.proofs.Telling.{pinned, Says, then}
 
 -- each level in both halves of its clock
 unfoldable pub twice : List Bool → List Bool
@@ -78,7 +81,7 @@ module _ (c : Chip) (xs : List ℕ) where
   bits-taken : (wanted : Wanted) (counter : ℕ) (mark : Bool) (load : Load) (b7 b6 b5 b4 b3 b2 b1 b0 : Bool)
       → Says (idle c xs counter mark load false (before wanted)) (clocks (b7 ∷ b6 ∷ b5 ∷ b4 ∷ b3 ∷ b2 ∷ b1 ∷ b0 ∷ [])) (twice (b7 ∷ b6 ∷ b5 ∷ b4 ∷ b3 ∷ b2 ∷ b1 ∷ b0 ∷ []))
       (idle c xs counter mark load b0 (full wanted (byteOf 0 (b7 ∷ b6 ∷ b5 ∷ b4 ∷ b3 ∷ b2 ∷ b1 ∷ b0 ∷ []))))
-  unfolding twice ran lines step next nextArray sampled sampledArray reacted reactedArray edgeOf pulls phasePulls risen fallIn clocks pinned byteOf
+  unfolding twice stepped lines step next nextArray sampled judged judgedArray reacted reactedArray edgeOf pulls phasePulls risen fallIn clocks pinned byteOf
   bits-taken slave counter mark load b7 b6 b5 b4 b3 b2 b1 b0 = record { ends = λ pins. refl; hears = λ pins. refl }
   bits-taken first counter mark load b7 b6 b5 b4 b3 b2 b1 b0 = record { ends = λ pins. refl; hears = λ pins. refl }
   bits-taken (second high) counter mark load b7 b6 b5 b4 b3 b2 b1 b0 = record { ends = λ pins. refl; hears = λ pins. refl }
@@ -97,26 +100,26 @@ module _ (c : Chip) (xs : List ℕ) where
   slave-acked : (reads : Bool) (counter : ℕ) (mark : Bool) (load : Load) (line : Bool) (got : ℕ)
       → eqb (got / 16) 0b1010 ≡ true → eqb (got / 2 % 8) (c .select) ≡ true → eqb (got % 2) 0 ≡ not reads
       → Says (idle c xs counter mark load line (Slave 8 got)) (clock true) (false ∷ false ∷ []) (idle c xs counter mark load false (cond reads AckRead AckWrite))
-  unfolding ran lines step next nextArray sampled sampledArray reacted reactedArray edgeOf pulls phasePulls risen fallIn slaveTaken pinned
+  unfolding stepped lines step next nextArray sampled judged judgedArray reacted reactedArray edgeOf pulls phasePulls risen fallIn slaveTaken pinned
   slave-acked true counter mark load line got p q r = record { ends = λ pins. rw (p, q, r); hears = λ pins. rw (p, q, r) }
   slave-acked false counter mark load line got p q r = record { ends = λ pins. rw (p, q, r); hears = λ pins. rw (p, q, r) }
 
   -- and so is the first address byte
   first-acked : (counter : ℕ) (mark : Bool) (load : Load) (line : Bool) (got : ℕ)
       → Says (idle c xs counter mark load line (First 8 got)) (clock true) (false ∷ false ∷ []) (idle c xs counter mark load false (AckFirst got))
-  unfolding ran lines step next nextArray sampled sampledArray reacted reactedArray edgeOf pulls phasePulls risen fallIn pinned
+  unfolding stepped lines step next nextArray sampled judged judgedArray reacted reactedArray edgeOf pulls phasePulls risen fallIn pinned
   first-acked counter mark load line got = record { ends = λ pins. refl; hears = λ pins. refl }
 
   -- and the second, which clears the mark and sets the counter where the address is not FFFFh
   second-acked : (counter : ℕ) (mark : Bool) (load : Load) (line : Bool) (high got : ℕ) → eqb (high * 256 + got) 0xffff ≡ false
       → Says (idle c xs counter mark load line (Second high 8 got)) (clock true) (false ∷ false ∷ []) (idle c xs ((high * 256 + got) % 0x4000) false load false AckByte)
-  unfolding ran lines step next nextArray sampled sampledArray reacted reactedArray edgeOf pulls phasePulls risen fallIn addressTaken pinned
+  unfolding stepped lines step next nextArray sampled judged judgedArray reacted reactedArray edgeOf pulls phasePulls risen fallIn addressTaken pinned
   second-acked counter mark load line high got p = record { ends = λ pins. rw p; hears = λ pins. rw p }
 
   -- 2, 3, 1 ends the acknowledge and makes a START
   pub restarted : (counter : ℕ) (mark : Bool) (load : Load)
       → Says (idle c xs counter mark load false AckByte) restart (true ∷ true ∷ false ∷ []) (idle c xs counter mark noLoad false (Slave 0 0))
-  unfolding ran lines step next nextArray sampled sampledArray reacted reactedArray edgeOf pulls phasePulls risen fallIn pinned
+  unfolding stepped lines step next nextArray sampled judged judgedArray reacted reactedArray edgeOf pulls phasePulls risen fallIn pinned
   restarted counter mark load = record { ends = λ pins. refl; hears = λ pins. refl }
 
   -- the slave byte with the chip's select, written or read

@@ -7,15 +7,19 @@ use mathlib.Core.Path.{_≡_, refl, ap₂, subst}
 use native.Mathlib.Omega.{arith}
 use lib.ListN.{length}
 use Rattle.parts.specs.Load.{noLoad}
+use Rattle.parts.specs.Sector.{Bytes}
 use Rattle.parts.specs.declared.phase.Phase.the-variants.{Slave}
 use Rattle.chip.specs.Run.{World, world, lines}
-use Rattle.recovery.specs.Pulses.{SeesStart}
-use Rattle.recovery.proofs.Posed.{posed-so}
-use Rattle.promises.specs.RandomRead.{pinned, bitsOf, byteOf, bytesTaken, slaveByte, randomRead, held, bitsRead, bytesRead, Acknowledged, Returns, Bytes}
-use Rattle.promises.proofs.Held.{length-held}
-use Rattle.promises.proofs.Telling.{then, then-hears}
-use Rattle.promises.proofs.Sending.{idle, twice, heardSent, byte-again, slave-sent, first-sent, second-sent, restarted}
-use Rattle.promises.proofs.Reading.{heardBytes, bytes-read, bits-heard}
+use Rattle.chip.specs.View.{SeesStart}
+use Rattle.chip.proofs.Posed.{posed-so}
+use Rattle.messages.specs.Messages.{slaveByte}
+use Rattle.messages.specs.RandomRead.{bytesTaken, randomRead, held, bitsRead, bytesRead, Acknowledged, Returns}
+use Rattle.messages.specs.Wires.{heardOf, bitsOf, byteOf}
+use Rattle.messages.proofs.Held.{length-held}
+use Rattle.messages.proofs.Spelling.{spelled-heard}
+use Rattle.messages.proofs.Telling.{pinned, then, then-hears}
+use Rattle.messages.proofs.Sending.{idle, twice, heardSent, byte-again, slave-sent, first-sent, second-sent, restarted}
+use Rattle.messages.proofs.Reading.{heardBytes, bytes-read, bits-heard}
 
 -- all that is heard of a random read of these bytes
 heardRead : ℕ → ℕ → List ℕ → List Bool
@@ -67,11 +71,11 @@ read-heard w s select-in address n h pins =
 -- For any chip that has just seen a START, at its own select: the random read is acknowledged, and the line's bits are those of the array's
 -- bytes from the address on
 pub random-read : (w : World) → SeesStart (w .chip) → w .chip .select ≤ 7 → (address n : ℕ) → address ≤ 0x3fff → (pins : ℕ → Bool)
-    → Returns n (lines (pinned pins (randomRead (w .chip .select) address n)) w) (held (w .array) address n)
+    → Returns n (heardOf pins (randomRead (w .chip .select) address n) w) (held (w .array) address n)
 random-read w s select-in address n h pins =
     let bytes : List ℕ = held (w .array) address n in
     let heard : List Bool = heardRead (w .chip .select) address bytes in
-    rw (read-heard w s select-in address n h pins)
+    rw (spelled-heard pins (randomRead (w .chip .select) address n) w, read-heard w s select-in address n h pins)
     (record {
       acknowledged = acks-heard (w .chip .select) address bytes;
       bits = subst (λ (m : ℕ). bitsRead m heard ≡ map bitsOf bytes) (length-held (w .array) address n) (read-bits (w .chip .select) address bytes);

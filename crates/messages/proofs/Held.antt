@@ -4,8 +4,8 @@ use mathlib.Core.List.{List, _∷_}
 use mathlib.Core.Path.{_≡_, refl, ap, ap₂, subst}
 use native.Mathlib.Omega.{arith}
 use lib.ListN.{length, getD}
-use Rattle.parts.specs.Sector.{nextAddress}
-use Rattle.promises.specs.RandomRead.{Bytes, held}
+use Rattle.parts.specs.Sector.{nextAddress, Bytes}
+use Rattle.messages.specs.RandomRead.{held}
 
 -- n bytes are n
 pub length-held : (xs : List ℕ) (address n : ℕ) → length (held xs address n) ≡ n

@@ -1,0 +1,6 @@
+pub mod Held
+pub mod RandomRead
+pub mod Reading
+pub mod Sending
+pub mod Spelling
+pub mod Telling

@@ -1,0 +1,1 @@
+// What a master sends and hears on the two wires: definitions and laws over them, and no code.
