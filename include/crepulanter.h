@@ -1,17 +1,22 @@
 /*
- * crepulanter.h: a model of the X24128 and X24F128 memory chips, and gate records.
+ * crepulanter.h: a model of the X24128 and X24F128 memory chips, and gate records, for tests that run on the host.
+ * C99 or C++98 and later; the library behind it, libcrepulanter.a, links on x86-64 Linux.
  *
- * Link target/staticlib/libcrepulanter.a into a host test, let your bit-banging driver call crep_event in
- * place of its port pins, and read in the answers what the chip would have done.
+ * Let your bit-banging driver call crep_event in place of its port pins, and read in the answers what the chip would
+ * have done.
  *
  * THE SHORTEST TEST
  *
  *     static uint8_t array[CREP_ARRAY];              // what the chip holds; yours to fill and to look at
  *     struct crep_chip chip;
- *     uint8_t answer;
- *     crep_new(&chip, 0, 0);                         // an X24128 with select 0, just powered up
- *     crep_event(&chip, array, sizeof array, CREP_SCL | CREP_SDA, &answer);    // both wires high
- *     crep_event(&chip, array, sizeof array, CREP_SCL, &answer);               // data falls: a START
+ *     uint8_t answer, refusal;
+ *     refusal = crep_new(&chip, CREP_X24128, 0);     // an X24128 with select 0, just powered up
+ *     if (refusal == 0)                              // both wires high
+ *         refusal = crep_event(&chip, array, sizeof array, CREP_SCL | CREP_SDA, &answer);
+ *     if (refusal == 0)                              // data falls: a START
+ *         refusal = crep_event(&chip, array, sizeof array, CREP_SCL, &answer);
+ *     if (refusal != 0)
+ *         puts(crep_refusal_text(refusal));
  *     // CREP_LINE(answer) is the level of the data wire now, CREP_NOTE(answer) what the event did
  *
  * EVENT BYTES                                     ANSWER BYTES
@@ -27,36 +32,17 @@
  *   Byte sequences, pin low: 3 1 start - 2 3 1 repeated start - 0 1 3 stop - 0 1 a bit 0 - 2 3 a bit 1.
  *   After eight bits a ninth clock 2 3 lets SDA go: the chip pulls it low (acknowledge) or does not.
  *
- * NOTES
- *     0  nothing to say
- *     1  array cycle begun: the loaded bytes are in the array, the chip is busy
- *     2  register cycle begun: PPEN and BL are set, the chip is busy
- *     3  PEL or RPEL set or cleared by a register byte
- *     4  the sector is locked: nothing written
- *     5  X24F128 and not exactly 32 bytes: nothing written
- *     6  register byte not taken
- *     7  one or more loaded bytes dropped by a START, a misplaced STOP or a second register byte
- *
- * REFUSALS: every call returns one of these numbers, 0 where it was done. The first in the order of its row wins.
- *     1  array_len is not 16384                         crep_new           3
- *     2  a field of the chip is out of its range        crep_event         1 2 6
- *     3  part above 1 or select above 7                 crep_run           1 2 4 5 6
- *     4  trace_len above 65536                          crep_recover       1 2
- *     5  answers_len below trace_len                    crep_record_write  7 8 9 10 11
- *     6  an event byte above 9                          crep_record_read   7 12 13 14
- *     7  record_len is not 32                           crep_name          none
- *     8  label_len above 24
- *     9  a label byte outside 20h-7Eh
- *     10 a limit outside -30000..30000
- *     11 the two limits are equal
- *     12 state byte is not A5h, and the record is not free
- *     13 the record's sum is wrong
- *     14 length, label, padding or limits are against the layout
- *   A refused call runs nothing and changes neither the chip, nor the array, nor any buffer. What it does write:
- *     crep_new          the standard chip (X24128, select 0) into *chip
- *     crep_event        1 into *answer (line high, note 0)
- *     crep_recover      0 into *pulses
- *     crep_record_read  0 into each of its five numbers
+ * FOR THE AUTHOR OF A DRIVER
+ *   - After crep_new and after a power-up the chip's last SCL is low. A first sample with SCL high and SDA pulled is
+ *     then a rising clock and no START: send one sample with both wires high before it.
+ *   - Notes 1 and 2 leave the chip busy, and it stays busy for ever, deaf to the wires, unless CREP_DONE (or a
+ *     power-up) is sent.
+ *   - A write that ends in note 0 was not taken: PEL is not set, or the slave byte names another select, or the chip is
+ *     busy, or a call was refused and its result dropped. The missing acknowledge tells which byte it was.
+ *   - Letting SDA go while SCL is high is a STOP, and a STOP can commit a load. Where a bus hangs, do not tidy the pins
+ *     first: crep_recover takes the chip as it was left.
+ *   - crep_recover ends with SCL high and SDA pulled, its START made: a driver that keeps its own idea of its pins sets
+ *     it so, and goes on with the slave byte.
  *
  * POINTERS: each points to what its type says and is never null. A pointer that comes with a length is read and
  * written within that length alone; with length 0 it may be anything. No two of the buffers and numbers of one call
@@ -73,11 +59,31 @@
 extern "C" {
 #endif
 
+#define CREP_VERSION "0.2.0"
+#define CREP_VERSION_NUMBER 200         /* the same for #if: 10000 * first + 100 * second + third */
+
+/* Before a call whose result must not be dropped: the compiler warns where it is. */
+#if defined(__GNUC__)
+#define CREP_CHECKED __attribute__((warn_unused_result))
+#elif defined(__cplusplus) && __cplusplus >= 201703L
+#define CREP_CHECKED [[nodiscard]]
+#else
+#define CREP_CHECKED
+#endif
+
+/* ---- Sizes ---- */
+
 #define CREP_ARRAY 16384        /* bytes of the array: 512 sectors of 32 */
 #define CREP_RECORD 32          /* bytes of a gate's record: one sector */
 #define CREP_LABEL 24           /* the longest label */
 #define CREP_TRACE 65536        /* the longest trace of one crep_run */
 #define CREP_PULSES 10          /* the most pulses that crep_recover makes */
+#define CREP_STATE 81           /* bytes of a struct crep_chip */
+
+/* ---- Parts, events, answers ---- */
+
+#define CREP_X24128 0
+#define CREP_X24F128 1
 
 #define CREP_SCL 1              /* in a sample: the clock is high */
 #define CREP_SDA 2              /* in a sample: the master lets the data wire go */
@@ -88,11 +94,72 @@ extern "C" {
 #define CREP_LINE(answer) ((answer) & 1)            /* level of the data wire, 0 or 1 */
 #define CREP_NOTE(answer) ((answer) >> 1 & 7)       /* the note, 0 to 7 */
 
+/* ---- Notes: what an event did ---- */
+
+#define CREP_NOTE_NONE 0        /* nothing to say */
+#define CREP_NOTE_STORED 1      /* array cycle begun: the loaded bytes are in the array, the chip is busy */
+#define CREP_NOTE_REGISTER 2    /* register cycle begun: PPEN and BL are set, the chip is busy */
+#define CREP_NOTE_LATCH 3       /* PEL or RPEL set or cleared by a register byte */
+#define CREP_NOTE_LOCKED 4      /* the sector is locked: nothing written */
+#define CREP_NOTE_NOT_32 5      /* X24F128 and not exactly 32 bytes: nothing written */
+#define CREP_NOTE_NOT_TAKEN 6   /* register byte not taken: RPEL not set before, reserved bits, or PPEN with the pin */
+#define CREP_NOTE_DROPPED 7     /* loaded bytes dropped by a START, a misplaced STOP or a second register byte */
+
 /*
- * A chip: 81 single bytes with no padding. Every field may be looked at and set; a value out of its range makes
- * the next call refuse with 2. A flag is 0 or 1, anything else is out of range.
+ * ---- Refusals ----
+ * Every call returns one of these numbers, CREP_OK where it was done. The first in the order of its row wins.
  *
- *     part          0 X24128, 1 X24F128                                                          0-1
+ *     crep_new            3                      crep_record_write   7 8 9 10 11
+ *     crep_event          1 2 6                  crep_record_limits  7 12 13 14 10 11
+ *     crep_run            1 2 4 5 6              crep_record_read    7 12 13 14
+ *     crep_recover        1 2                    crep_name           none
+ *
+ * A refused call runs nothing and changes neither the chip, nor the array, nor any buffer. What it does write:
+ *     crep_new          the standard chip (X24128, select 0) into *chip
+ *     crep_event        1 into *answer (line high, note 0)
+ *     crep_recover      0 into *pulses
+ *     crep_record_read  0 into each of its five numbers
+ */
+#define CREP_OK 0
+#define CREP_REFUSED_ARRAY_LENGTH 1     /* array_len is not 16384 */
+#define CREP_REFUSED_CHIP 2             /* a field of the chip is out of its range */
+#define CREP_REFUSED_PART_OR_SELECT 3   /* part above 1 or select above 7 */
+#define CREP_REFUSED_TRACE_LENGTH 4     /* trace_len above 65536 */
+#define CREP_REFUSED_ANSWERS_LENGTH 5   /* answers_len below trace_len */
+#define CREP_REFUSED_EVENT 6            /* an event byte above 9 */
+#define CREP_REFUSED_RECORD_LENGTH 7    /* record_len is not 32 */
+#define CREP_REFUSED_LABEL_LENGTH 8     /* label_len above 24 */
+#define CREP_REFUSED_LABEL_BYTE 9       /* a label byte outside 20h-7Eh */
+#define CREP_REFUSED_LIMIT 10           /* a limit outside -30000..30000 */
+#define CREP_REFUSED_EQUAL_LIMITS 11    /* the two limits are equal */
+#define CREP_REFUSED_STATE_BYTE 12      /* state byte is not A5h (reading: and the record is not free) */
+#define CREP_REFUSED_SUM 13             /* the record's sum is wrong */
+#define CREP_REFUSED_LAYOUT 14          /* length, label, padding or limits are against the layout */
+
+/* ---- The chip ---- */
+
+/* Where a transfer stands, and what the chip then carries in bits, byte and high ("-": not read, and 0 after a call
+ * that was not refused). In 5 to 8 the chip pulls the data wire, in 9 while the bit it sends is 0; nowhere else, and
+ * never while busy. */
+                                    /*                                      bits           byte       high           */
+#define CREP_PHASE_STANDBY 0        /* standby                              -              -          -              */
+#define CREP_PHASE_SLAVE 1          /* receiving the slave byte             received 0-8   what came  -              */
+#define CREP_PHASE_FIRST 2          /* receiving the first address byte     received 0-8   what came  -              */
+#define CREP_PHASE_SECOND 3         /* receiving the second address byte    received 0-8   what came  first address  */
+#define CREP_PHASE_DATA 4           /* receiving a data byte                received 0-8   what came  -              */
+#define CREP_PHASE_ACK_WRITE 5      /* acknowledging a slave byte, write    -              -          -              */
+#define CREP_PHASE_ACK_READ 6       /* acknowledging a slave byte, read     -              -          -              */
+#define CREP_PHASE_ACK_FIRST 7      /* acknowledging the first address      -              -          first address  */
+#define CREP_PHASE_ACK_BYTE 8       /* acknowledging the second or data     -              -          -              */
+#define CREP_PHASE_SENDING 9        /* sending                              bit sent 7-0   byte sent  -              */
+#define CREP_PHASE_WAITING 10       /* let go, master's bit to come         -              -          -              */
+#define CREP_PHASE_NEXT 11          /* master's bit was low, byte follows   -              -          -              */
+
+/*
+ * A chip: single bytes with no padding. Every field may be looked at and set; a value out of its range makes the next
+ * call refuse with 2. A flag is 0 or 1, anything else is out of range.
+ *
+ *     part          CREP_X24128 or CREP_X24F128                                                  0-1
  *     select        the chip's S2 S1 S0 pins                                                     0-7
  *     ppen          register: the protect pin guards the register's PPEN and BL (also WPEN)      flag
  *     bl            register: locks from 0 nothing, 1 3000h, 2 2000h, 3 0000h                    0-3
@@ -104,68 +171,65 @@ extern "C" {
  *     busy          a cycle runs: wires are ignored until event 8 or 9                           flag
  *     scl           SCL level of the last sample                                                 flag
  *     line          level of the data wire after the last event                                  flag
- *     place         where the chip is in a transfer, below                                       0-11
- *     bits, byte, high   belong to the place, below
+ *     phase         where a transfer stands, CREP_PHASE_..                                       0-11
+ *     bits, byte, high   belong to the phase, above
  *     count         data bytes loaded since the address; 33 means 33 or more                     0-33
  *     places[i]     a byte is loaded for place i of the sector                                   flag
  *     load[i]       that byte; a register byte is load[0]                                        any
- *
- *     place                                           bits               byte           high
- *     0   standby                                     -                  -              -
- *     1   receiving the slave byte                    received, 0-8      what came      -
- *     2   receiving the first address byte            received, 0-8      what came      -
- *     3   receiving the second address byte           received, 0-8      what came      first address byte
- *     4   receiving a data byte                       received, 0-8      what came      -
- *     5   acknowledging a slave byte with write       -                  -              -
- *     6   acknowledging a slave byte with read        -                  -              -
- *     7   acknowledging the first address byte        -                  -              first address byte
- *     8   acknowledging the second or a data byte     -                  -              -
- *     9   sending                                     bit sent, 7 to 0   byte sent      -
- *     10  let go after bit 0, master's bit to come    -                  -              -
- *     11  master's bit was low: next byte at the fall -                  -              -
- *   "-": the place does not carry the field. It is not read, and is 0 after a call that was not refused.
- *   In 5 to 8 the chip pulls the data wire, in 9 while the bit it sends is 0; nowhere else, and never while busy.
  */
 struct crep_chip {
     uint8_t part, select, ppen, bl, rpel, pel, counter_high, counter_low, mark, busy, scl, line;
-    uint8_t place, bits, byte, high, count, places[32], load[32];
+    uint8_t phase, bits, byte, high, count, places[32], load[32];
 };
 
 /*
  * Makes a new chip: PPEN 0, BL 0, just powered up (standby, last SCL low, last line high).
  * Refuses with 3, and then makes the standard chip.
  */
-uint8_t crep_new(struct crep_chip *chip, uint8_t part, uint8_t select);
+CREP_CHECKED uint8_t crep_new(struct crep_chip *chip, uint8_t part, uint8_t select);
 
 /*
  * Runs one event on the chip and its array, and puts the answer byte into *answer.
  * Refuses with 1, 2, 6; *answer is then 1.
  */
-uint8_t crep_event(struct crep_chip *chip, uint8_t *array, size_t array_len, uint8_t event, uint8_t *answer);
+CREP_CHECKED uint8_t crep_event(struct crep_chip *chip, uint8_t *array, size_t array_len,
+                                uint8_t event, uint8_t *answer);
 
 /*
  * Runs a whole trace: answers[i] is the answer to trace[i]; answers past trace_len stay. An empty trace is taken.
  * Refuses with 1, 2, 4, 5, 6 before the first event, so a refused trace runs nothing.
  */
-uint8_t crep_run(struct crep_chip *chip, uint8_t *array, size_t array_len,
-                 const uint8_t *trace, size_t trace_len, uint8_t *answers, size_t answers_len);
+CREP_CHECKED uint8_t crep_run(struct crep_chip *chip, uint8_t *array, size_t array_len,
+                              const uint8_t *trace, size_t trace_len, uint8_t *answers, size_t answers_len);
 
 /*
  * Frees a bus that the chip holds: pulses the clock with the data wire let go until the line is high, then makes a
  * START. *pulses is the number of that pulse, 1 to 10. pin is the protect pin's level, 0 low, any other value high.
- * The array and PPEN, BL, RPEL, PEL stay; the counter, the mark, the load and the place may not. A busy chip
- * reports 1 and ignores the START.
+ * The array and PPEN, BL, RPEL, PEL stay; the counter, the mark, the load and the phase may not. SCL is high and SDA
+ * pulled afterwards. A busy chip reports 1 and ignores the START.
  * Refuses with 1, 2; *pulses is then 0.
  */
-uint8_t crep_recover(struct crep_chip *chip, uint8_t *array, size_t array_len, uint8_t pin, uint8_t *pulses);
+CREP_CHECKED uint8_t crep_recover(struct crep_chip *chip, uint8_t *array, size_t array_len,
+                                  uint8_t pin, uint8_t *pulses);
+
+/* ---- Gate records ---- */
 
 /*
  * Writes a gate's record, 32 bytes for one sector: 0-1 closed limit, 2-3 open limit (two's complement, high byte
  * first), 4 A5h, 5 label length, 6-29 label padded with 20h, 30-31 sum of bytes 0-29 (high byte first).
  * Limits in encoder counts. Refuses with 7, 8, 9, 10, 11; the record then keeps its bytes.
+ * WARNING: label must not lie in record. crep_record_write(r, 32, closed, opened, r + 6, r[5]) is not refused and
+ * leaves a record whose label is lost; to change the limits and keep the label, call crep_record_limits.
  */
-uint8_t crep_record_write(uint8_t *record, size_t record_len, int32_t closed, int32_t opened,
-                          const uint8_t *label, size_t label_len);
+CREP_CHECKED uint8_t crep_record_write(uint8_t *record, size_t record_len, int32_t closed, int32_t opened,
+                                       const uint8_t *label, size_t label_len);
+
+/*
+ * Changes the limits of a good record and keeps its label: bytes 0-3 and the sum change, nothing beside them.
+ * Refuses with 7, 12 (here for a free record too), 13, 14 by reading the record, then 10, 11 for the new limits; the
+ * record then keeps its bytes.
+ */
+CREP_CHECKED uint8_t crep_record_limits(uint8_t *record, size_t record_len, int32_t closed, int32_t opened);
 
 /*
  * Reads a gate's record: both limits, the travel (opened - closed, negative for a left-hung motor, never 0) and the
@@ -173,24 +237,68 @@ uint8_t crep_record_write(uint8_t *record, size_t record_len, int32_t closed, in
  * four and 1 in *free_record.
  * Refuses with 7, 12, 13, 14; all five are then 0.
  */
-uint8_t crep_record_read(const uint8_t *record, size_t record_len, int32_t *closed, int32_t *opened,
-                         int32_t *travel, uint8_t *label_len, uint8_t *free_record);
+CREP_CHECKED uint8_t crep_record_read(const uint8_t *record, size_t record_len, int32_t *closed, int32_t *opened,
+                                      int32_t *travel, uint8_t *label_len, uint8_t *free_record);
 
 /*
  * Where the name to show lies: *len bytes from *start. With *from_record 1 they are in record, the label without its
  * trailing spaces; with 0 they are in standard, the whole of it, since the record is free, refused or blank.
- * It always answers: the number returned is 0 for any lengths and any bytes, and standard is not checked.
+ * It always answers: the number returned is 0 for any lengths and any bytes, and standard is not checked. So this
+ * result alone may be dropped.
  */
 uint8_t crep_name(const uint8_t *record, size_t record_len, const uint8_t *standard, size_t standard_len,
                   size_t *start, size_t *len, uint8_t *from_record);
 
-/* The library reads a chip as 81 bytes in a row. */
+/* ---- Texts ---- */
+
+/* What a note says, in words. */
+static inline const char *crep_note_text(int note)
+{
+    static const char *const texts[] = {
+        "nothing to say",
+        "stored: array cycle begun",
+        "register written: cycle begun",
+        "PEL or RPEL set or cleared",
+        "sector locked, nothing written",
+        "not exactly 32 bytes, nothing written",
+        "register byte not taken",
+        "loaded bytes dropped"
+    };
+
+    return note >= 0 && note <= CREP_NOTE_DROPPED ? texts[note] : "no such note";
+}
+
+/* What a refusal says, in words. */
+static inline const char *crep_refusal_text(int refusal)
+{
+    static const char *const texts[] = {
+        "done, not refused",
+        "array is not 16384 bytes",
+        "a field of the chip is out of its range",
+        "no such part, or select above 7",
+        "trace over 65536 events",
+        "answer buffer shorter than the trace",
+        "an event byte above 9",
+        "record buffer is not 32 bytes",
+        "label over 24 bytes",
+        "a label byte outside 20h-7Eh",
+        "a limit outside -30000..30000",
+        "the two limits are equal",
+        "state byte is not A5h: no gate's record",
+        "the record's sum is wrong",
+        "length, label, padding or limits against the layout"
+    };
+
+    return refusal >= 0 && refusal <= CREP_REFUSED_LAYOUT ? texts[refusal] : "no such refusal";
+}
+
+/* The library reads a chip as CREP_STATE bytes in a row. */
 #if defined(__cplusplus) && __cplusplus >= 201103L
-static_assert(sizeof(struct crep_chip) == 81, "struct crep_chip is 81 bytes");
+static_assert(sizeof(struct crep_chip) == CREP_STATE, "struct crep_chip is CREP_STATE bytes");
 #elif defined(__STDC_VERSION__) && __STDC_VERSION__ >= 201112L
-_Static_assert(sizeof(struct crep_chip) == 81, "struct crep_chip is 81 bytes");
+_Static_assert(sizeof(struct crep_chip) == CREP_STATE, "struct crep_chip is CREP_STATE bytes");
 #else
-typedef char crep_chip_is_81_bytes[sizeof(struct crep_chip) == 81 ? 1 : -1];
+typedef char crep_chip_is_crep_state_bytes[sizeof(struct crep_chip) == CREP_STATE ? 1 : -1];
 #endif
 
 #ifdef __cplusplus
