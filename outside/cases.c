@@ -136,6 +136,20 @@ static int case_5(const struct kit *kit)
         && kit->record_write(record, 32, 0, 1, label, 24) == 0 && record[29] == 'X';
 }
 
+/* New limits keep the label and all that stands beside limits and sum; a free record is refused as 12. */
+static int limits_keep_the_label(const struct kit *kit)
+{
+    uint8_t record[32], wanted[32];
+
+    memset(record, 0xff, 32);
+    if (kit->record_limits(record, 32, 0, 1200) != 12 || record[0] != 0xff)
+        return 0;
+    return kit->record_write(record, 32, 7, -7, (const uint8_t *)"NORTH", 5) == 0
+        && kit->record_write(wanted, 32, 0, 1200, (const uint8_t *)"NORTH", 5) == 0
+        && kit->record_limits(record, 32, 0, 30001) == 10 && kit->record_limits(record, 32, 5, 5) == 11
+        && kit->record_limits(record, 32, 0, 1200) == 0 && memcmp(record, wanted, 32) == 0;
+}
+
 /* 6. X24128, unlocked, PEL 1, 27 bytes at 0006h: bytes 6-31 and byte 0 change, counter 0001h. */
 static int case_6(const struct kit *kit)
 {
@@ -204,7 +218,7 @@ static int pulses_in_acknowledge(const struct kit *kit, int scl)
     bench.wire.len -= scl ? 0 : 1;
     if (last_note() != 0 || kit->recover(&bench.chip, bench.array, CREP_ARRAY, 0, &pulses) != 0)
         return -1;
-    return bench.chip.place == 1 && bench.chip.bits == 0 ? pulses : -1;
+    return bench.chip.phase == CREP_PHASE_SLAVE && bench.chip.bits == 0 ? pulses : -1;
 }
 
 /* 11. Stopped with SCL low: 10 pulses. */
@@ -240,7 +254,7 @@ static int stop_needs_one_bit(const struct kit *kit)
 {
     open_bench(kit, 0);
     bench.chip.pel = 1;
-    bench.chip.place = 4;
+    bench.chip.phase = CREP_PHASE_DATA;
     bench.chip.count = bench.chip.places[0] = 1;
     bench.chip.scl = 1;
     bench.chip.line = 0;
@@ -369,6 +383,7 @@ static const struct {
     { "13  the message that sets PEL, note 3 at 77", case_13 },
     { "-   a STOP needs exactly one bit", stop_needs_one_bit },
     { "-   the pin is read at the STOP", pin_is_read_at_the_stop },
+    { "-   new limits keep the label", limits_keep_the_label },
     { "-   demand 3 on 500 random noises", demand_3 },
 };
 
@@ -377,7 +392,7 @@ int main(void)
     size_t i;
     int failed = 0;
 
-    printf("%-52s %-7s %s\n", "worked case", "model", "library");
+    printf("%-52s %-7s %s\n", "worked case", kit_model.name, kit_library.name);
     for (i = 0; i < sizeof cases / sizeof cases[0]; i++) {
         int model = cases[i].holds(&kit_model);
         int library = cases[i].holds(&kit_library);

@@ -14,6 +14,7 @@
 #include <string.h>
 #include <time.h>
 
+#include "kit.h"
 #include "tally.h"
 
 /* Below this many events a note or refusal that is never reached means nothing. */
@@ -28,6 +29,7 @@ static const struct {
     { compare_traces, 4 },
     { compare_recovery, 12 },
     { compare_record_write, 30 },
+    { compare_record_limits, 30 },
     { compare_record_read, 30 },
     { compare_name, 15 },
 };
@@ -87,7 +89,7 @@ int main(int argc, char **argv)
         return usage();
     if (compare_new() || (one ? run_round(round) : all_rounds(events)))
         return 1;
-    printf("compare: the library and the model agree (seed %" PRIu64 ", %.1f s)\n", tally.seed,
+    printf("compare: the %s and the model agree (seed %" PRIu64 ", %.1f s)\n", kit_library.name, tally.seed,
            (double)(clock() - begun) / CLOCKS_PER_SEC);
     missing = tally_print();
     if (missing && !one && events >= ENOUGH)

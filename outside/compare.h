@@ -10,6 +10,7 @@ int compare_chips(struct chance *chance);               /* one event on a random
 int compare_traces(struct chance *chance);              /* traces that ask to be refused */
 int compare_recovery(struct chance *chance);
 int compare_record_write(struct chance *chance);
+int compare_record_limits(struct chance *chance);
 int compare_record_read(struct chance *chance);
 int compare_name(struct chance *chance);
 

@@ -104,7 +104,7 @@ static int compare_one(size_t array_len, uint8_t event, size_t at)
         tally.refusals[model.refusal]++;
         tally.notes[CREP_NOTE(model.number)]++;
         if (model.refusal == 0)
-            tally.places[model.chip.place]++;
+            tally.phases[model.chip.phase]++;
         return 0;
     }
     tally_difference("crep_event");
@@ -246,7 +246,7 @@ static void held_chip(struct chance *chance, struct crep_chip *chip)
 {
     stir_chip(chance, chip);
     if (chance_once_in(chance, 2)) {
-        chip->place = (uint8_t)(chance_once_in(chance, 2) ? 9 : 5 + chance_below(chance, 4));
+        chip->phase = (uint8_t)(chance_once_in(chance, 2) ? CREP_PHASE_SENDING : CREP_PHASE_ACK_WRITE + chance_below(chance, 4));
         chip->bits = (uint8_t)chance_below(chance, 8);
         chip->byte = chance_once_in(chance, 2) ? 0 : chance_byte(chance);
         chip->busy = 0;

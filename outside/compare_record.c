@@ -1,4 +1,4 @@
-/* Compares the writing and reading of records and the name shown. */
+/* Compares the writing and reading of records, the change of their limits, and the name shown. */
 #include <inttypes.h>
 #include <stdio.h>
 #include <string.h>
@@ -11,53 +11,85 @@
 
 #define ROOM 64                         /* longest buffer lent */
 
-/* ---- Writing ---- */
+/* ---- Writing, and changing the limits ---- */
 
 struct order {
     size_t record_len, label_len;
     int32_t closed, opened;
-    uint8_t label[ROOM];
+    uint8_t label[ROOM], before[ROOM];
 };
+
+typedef uint8_t writer(const struct kit *, const struct order *, uint8_t *record);
 
 static uint8_t do_write(const struct kit *kit, const struct order *o, uint8_t *record)
 {
     return kit->record_write(record, o->record_len, o->closed, o->opened, o->label, o->label_len);
 }
 
-static int differ_write(const struct order *o, uint8_t library, uint8_t model, const uint8_t *a, const uint8_t *b)
+static uint8_t do_limits(const struct kit *kit, const struct order *o, uint8_t *record)
 {
-    tally_difference("crep_record_write");
+    return kit->record_limits(record, o->record_len, o->closed, o->opened);
+}
+
+static void show_titled(const char *title, const uint8_t *bytes, size_t n)
+{
+    printf("    %s\n", title);
+    show_bytes(stdout, bytes, n);
+}
+
+/* Runs the order on both sides, on the same bytes before, and compares all that either wrote. */
+static int compare_written(const char *call, writer *write, const struct order *o)
+{
+    uint8_t records[2][ROOM], library, model;
+
+    memcpy(records[0], o->before, ROOM);
+    memcpy(records[1], o->before, ROOM);
+    library = write(&kit_library, o, records[0]);
+    model = write(&kit_model, o, records[1]);
+    if (library == model && memcmp(records[0], records[1], ROOM) == 0) {
+        tally.records++;
+        tally.refusals[model]++;
+        return 0;
+    }
+    tally_difference(call);
     printf("    returned: library %d, model %d\n", library, model);
-    printf("    closed %" PRId32 ", opened %" PRId32 ", record of %zu bytes, label of %zu:\n", o->closed, o->opened,
+    printf("    closed %" PRId32 ", opened %" PRId32 ", record of %zu bytes, label of %zu\n", o->closed, o->opened,
            o->record_len, o->label_len);
-    show_bytes(stdout, o->label, o->label_len);
-    show_difference(stdout, "record", a, b, ROOM);
-    printf("    library\n");
-    show_bytes(stdout, a, ROOM);
-    printf("    model\n");
-    show_bytes(stdout, b, ROOM);
+    show_titled("label", o->label, o->label_len);
+    show_difference(stdout, "record", records[0], records[1], ROOM);
+    show_titled("before", o->before, ROOM);
+    show_titled("library", records[0], ROOM);
+    show_titled("model", records[1], ROOM);
     return 1;
+}
+
+/* Lengths and limits, equal ones at times; no label, rubbish before. */
+static void stir_order(struct chance *chance, struct order *o)
+{
+    o->record_len = stir_length(chance, 32, ROOM);
+    o->label_len = 0;
+    o->closed = stir_limit(chance);
+    o->opened = chance_once_in(chance, 8) ? o->closed : stir_limit(chance);
+    chance_fill(chance, o->before, ROOM);
 }
 
 int compare_record_write(struct chance *chance)
 {
     struct order o;
-    uint8_t records[2][ROOM], library, model;
 
-    o.record_len = stir_length(chance, 32, ROOM);
+    stir_order(chance, &o);
     o.label_len = chance_once_in(chance, 4) ? stir_length(chance, 24, ROOM) : chance_below(chance, 25);
-    o.closed = stir_limit(chance);
-    o.opened = chance_once_in(chance, 8) ? o.closed : stir_limit(chance);
     stir_label(chance, o.label, ROOM);
-    chance_fill(chance, records[0], ROOM);
-    memcpy(records[1], records[0], ROOM);
-    library = do_write(&kit_library, &o, records[0]);
-    model = do_write(&kit_model, &o, records[1]);
-    if (library != model || memcmp(records[0], records[1], ROOM) != 0)
-        return differ_write(&o, library, model, records[0], records[1]);
-    tally.records++;
-    tally.refusals[model]++;
-    return 0;
+    return compare_written("crep_record_write", do_write, &o);
+}
+
+int compare_record_limits(struct chance *chance)
+{
+    struct order o;
+
+    stir_order(chance, &o);
+    stir_record(chance, o.before);
+    return compare_written("crep_record_limits", do_limits, &o);
 }
 
 /* ---- Reading ---- */

@@ -144,16 +144,30 @@ static void fuzz_new(struct chance *chance)
     take_all_back(1);
 }
 
+/* What one event and a recovery are lent. */
+struct lent {
+    struct crep_chip *chip;
+    uint8_t *array, *number;
+    size_t array_len;
+};
+
+static struct lent lend_three(struct chance *chance)
+{
+    struct lent l;
+
+    l.chip = lend_chip(chance, 0);
+    l.array = lend_array(chance, 1, &l.array_len);
+    l.number = lend(chance, 2, 1);
+    return l;
+}
+
 static void fuzz_event(struct chance *chance)
 {
-    struct crep_chip *chip = lend_chip(chance, 0);
-    size_t array_len;
-    uint8_t *array = lend_array(chance, 1, &array_len);
-    uint8_t *answer = lend(chance, 2, 1);
+    struct lent l = lend_three(chance);
     uint8_t event = chance_once_in(chance, 20) ? chance_byte(chance) : stir_event(chance);
 
     doing = "crep_event";
-    check(crep_event(chip, array, array_len, event, answer) <= 6 && *answer <= 15);
+    check(crep_event(l.chip, l.array, l.array_len, event, l.number) <= 6 && *l.number <= 15);
     take_all_back(3);
 }
 
@@ -182,13 +196,10 @@ static void fuzz_run(struct chance *chance)
 
 static void fuzz_recover(struct chance *chance)
 {
-    struct crep_chip *chip = lend_chip(chance, 0);
-    size_t array_len;
-    uint8_t *array = lend_array(chance, 1, &array_len);
-    uint8_t *pulses = lend(chance, 2, 1);
+    struct lent l = lend_three(chance);
 
     doing = "crep_recover";
-    check(crep_recover(chip, array, array_len, chance_byte(chance), pulses) <= 2 && *pulses <= 10);
+    check(crep_recover(l.chip, l.array, l.array_len, chance_byte(chance), l.number) <= 2 && *l.number <= 10);
     take_all_back(3);
 }
 
@@ -215,8 +226,17 @@ static uint8_t *lend_record(struct chance *chance, int i, size_t *len)
     stir_record(chance, whole);
     record = lend(chance, i, *len);
     memcpy(record, whole, *len);
-    keep(i);
     return record;
+}
+
+static void fuzz_record_limits(struct chance *chance)
+{
+    size_t n;
+    uint8_t *record = lend_record(chance, 0, &n);
+
+    doing = "crep_record_limits";
+    check(crep_record_limits(record, n, stir_limit(chance), stir_limit(chance)) <= 14);
+    take_all_back(1);
 }
 
 static void fuzz_record_read(struct chance *chance)
@@ -229,6 +249,7 @@ static void fuzz_record_read(struct chance *chance)
 
     for (i = 0; i < 3; i++)
         limits[i] = (int32_t *)(void *)lend(chance, 1 + i, sizeof(int32_t));
+    keep(0);
     doing = "crep_record_read";
     check(crep_record_read(record, n, limits[0], limits[1], limits[2], length, empty) <= 14);
     check(*length <= 24 && *empty <= 1 && *limits[2] == *limits[1] - *limits[0]);
@@ -244,6 +265,7 @@ static void fuzz_name(struct chance *chance)
     uint8_t *from = lend(chance, 4, 1);
 
     chance_fill(chance, standard, m);
+    keep(0);
     keep(1);
     doing = "crep_name";
     check(crep_name(record, n, standard, m, start, len, from) == 0 && *from <= 1);
@@ -252,7 +274,8 @@ static void fuzz_name(struct chance *chance)
 }
 
 static void (*const calls[])(struct chance *) = {
-    fuzz_new, fuzz_event, fuzz_event, fuzz_run, fuzz_recover, fuzz_record_write, fuzz_record_read, fuzz_name,
+    fuzz_new, fuzz_event, fuzz_event, fuzz_run, fuzz_recover, fuzz_record_write, fuzz_record_limits, fuzz_record_read,
+    fuzz_name,
 };
 
 int main(int argc, char **argv)

@@ -2,10 +2,17 @@
 
 #include "model.h"
 
+/* `make self` links a copy of the model in the library's place, and says so here. */
+#ifndef LIBRARY
+#define LIBRARY "library"
+#endif
+
 const struct kit kit_library = {
-    "library", crep_new, crep_event, crep_run, crep_recover, crep_record_write, crep_record_read, crep_name,
+    LIBRARY, crep_new, crep_event, crep_run, crep_recover, crep_record_write, crep_record_limits, crep_record_read,
+    crep_name,
 };
 
 const struct kit kit_model = {
-    "model", model_new, model_event, model_run, model_recover, model_record_write, model_record_read, model_name,
+    "model", model_new, model_event, model_run, model_recover, model_record_write, model_record_limits,
+    model_record_read, model_name,
 };

@@ -1,16 +1,17 @@
-/* The seven calls of crepulanter.h as one value, so that a test runs on the library and on the model alike. */
+/* The calls of crepulanter.h as one value, so that a test runs on the library and on the model alike. */
 #ifndef KIT_H
 #define KIT_H
 
 #include "crepulanter.h"
 
 struct kit {
-    const char *name;
+    const char *name;           /* in reports: "library", or what stands in its place */
     uint8_t (*make)(struct crep_chip *, uint8_t, uint8_t);
     uint8_t (*event)(struct crep_chip *, uint8_t *, size_t, uint8_t, uint8_t *);
     uint8_t (*run)(struct crep_chip *, uint8_t *, size_t, const uint8_t *, size_t, uint8_t *, size_t);
     uint8_t (*recover)(struct crep_chip *, uint8_t *, size_t, uint8_t, uint8_t *);
     uint8_t (*record_write)(uint8_t *, size_t, int32_t, int32_t, const uint8_t *, size_t);
+    uint8_t (*record_limits)(uint8_t *, size_t, int32_t, int32_t);
     uint8_t (*record_read)(const uint8_t *, size_t, int32_t *, int32_t *, int32_t *, uint8_t *, uint8_t *);
     uint8_t (*record_name)(const uint8_t *, size_t, const uint8_t *, size_t, size_t *, size_t *, uint8_t *);
 };

@@ -7,7 +7,7 @@
 #include <string.h>
 
 /* Where the chip is in a transfer; the numbers are those of the C interface. */
-enum place {
+enum phase {
     STANDBY,
     GET_SLAVE, GET_HIGH, GET_LOW, GET_DATA,
     ACK_WRITE, ACK_READ, ACK_HIGH, ACK_DATA,
@@ -37,28 +37,28 @@ static void set_counter(struct crep_chip *c, unsigned address)
 
 static int receives(const struct crep_chip *c)
 {
-    return c->place >= GET_SLAVE && c->place <= GET_DATA;
+    return c->phase >= GET_SLAVE && c->phase <= GET_DATA;
 }
 
-/* A place begins with nothing received, nothing to send and no kept address byte. */
-static void go(struct crep_chip *c, enum place place)
+/* A phase begins with nothing received, nothing to send and no kept address byte. */
+static void go(struct crep_chip *c, enum phase phase)
 {
-    c->place = (uint8_t)place;
+    c->phase = (uint8_t)phase;
     c->bits = 0;
     c->byte = 0;
     c->high = 0;
 }
 
-/* C interface: what the place does not carry comes back as 0. */
+/* C interface: what the phase does not carry comes back as 0. */
 static void tidy(struct crep_chip *c)
 {
-    int has_bits = receives(c) || c->place == SENDING;
+    int has_bits = receives(c) || c->phase == SENDING;
 
     if (!has_bits) {
         c->bits = 0;
         c->byte = 0;
     }
-    if (c->place != GET_LOW && c->place != ACK_HIGH)
+    if (c->phase != GET_LOW && c->phase != ACK_HIGH)
         c->high = 0;
 }
 
@@ -91,14 +91,14 @@ static int flags_good(const struct crep_chip *c)
     return c->ppen <= 1 && c->rpel <= 1 && c->pel <= 1 && c->mark <= 1 && c->busy <= 1 && c->scl <= 1 && c->line <= 1;
 }
 
-/* Bits received and the bit being sent are looked at only where the place carries them (reading). */
-static int place_good(const struct crep_chip *c)
+/* Bits received and the bit being sent are looked at only where the phase carries them (reading). */
+static int phase_good(const struct crep_chip *c)
 {
-    if (c->place > AGAIN)
+    if (c->phase > AGAIN)
         return 0;
     if (receives(c))
         return c->bits <= 8;
-    if (c->place == SENDING)
+    if (c->phase == SENDING)
         return c->bits <= 7;
     return 1;
 }
@@ -106,7 +106,7 @@ static int place_good(const struct crep_chip *c)
 static int chip_good(const struct crep_chip *c)
 {
     return c->part <= 1 && c->select <= 7 && c->bl <= 3 && counter_of(c) <= 0x3fff && c->count <= 33
-        && flags_good(c) && place_good(c);
+        && flags_good(c) && phase_good(c);
 }
 
 /* Refusals 1 and 2, which one event, a trace and recovery check first. */
@@ -124,9 +124,9 @@ static int pulls(const struct crep_chip *c)
 {
     if (c->busy)
         return 0;
-    if (c->place >= ACK_WRITE && c->place <= ACK_DATA)
+    if (c->phase >= ACK_WRITE && c->phase <= ACK_DATA)
         return 1;
-    return c->place == SENDING && (c->byte >> c->bits & 1) == 0;
+    return c->phase == SENDING && (c->byte >> c->bits & 1) == 0;
 }
 
 /* ---- Transfers ---- */
@@ -143,7 +143,7 @@ static void on_rise(struct crep_chip *c, int bit)
     if (receives(c) && c->bits < 8) {
         c->byte = (uint8_t)(c->byte * 2 + bit);
         c->bits++;
-    } else if (c->place == WAITING) {
+    } else if (c->phase == WAITING) {
         go(c, bit ? STANDBY : AGAIN);
     }
 }
@@ -216,7 +216,7 @@ static enum note take_byte(struct crep_chip *c)
     uint8_t byte = c->byte;
     uint8_t high = c->high;
 
-    switch (c->place) {
+    switch (c->phase) {
     case GET_SLAVE:
         take_slave(c, byte);
         return QUIET;
@@ -270,7 +270,7 @@ static enum note on_fall(struct crep_chip *c, const uint8_t *array)
 
     if (receives(c))
         return c->bits == 8 ? take_byte(c) : QUIET;
-    switch (c->place) {
+    switch (c->phase) {
     case ACK_WRITE:
         go(c, GET_HIGH);
         break;
@@ -357,12 +357,21 @@ static enum note placed_stop(struct crep_chip *c, uint8_t *array, int pin)
     return note;
 }
 
-/* Rightly placed: in the data place with exactly the one bit that the clock's rise before the STOP brings. */
+/* A STOP while the chip pulls: standby, note 7 if a load exists. No sample leads here, for a pull keeps the line low. */
+static enum note stop_in_pull(struct crep_chip *c)
+{
+    go(c, STANDBY);
+    return drop_load(c);
+}
+
+/* Rightly placed: in the data phase with exactly the one bit that the clock's rise before the STOP brings. */
 static enum note on_stop(struct crep_chip *c, uint8_t *array, int pin)
 {
-    int placed = c->place == GET_DATA && c->bits == 1;
+    int placed = c->phase == GET_DATA && c->bits == 1;
     enum note note;
 
+    if (pulls(c))
+        return stop_in_pull(c);
     go(c, STANDBY);
     if (!placed)
         return drop_load(c);
@@ -546,6 +555,12 @@ static void put_pair(uint8_t *at, unsigned value)
     at[1] = (uint8_t)value;
 }
 
+static void put_limits(uint8_t *record, int32_t closed, int32_t opened)
+{
+    put_pair(record + CLOSED, (unsigned)closed & 0xffff);
+    put_pair(record + OPENED, (unsigned)opened & 0xffff);
+}
+
 /* Two's complement in 16 bits. */
 static int32_t get_limit(const uint8_t *at)
 {
@@ -564,6 +579,14 @@ static int all_label(const uint8_t *label, size_t len)
     return 1;
 }
 
+/* Refusals 10 and 11. */
+static uint8_t refuse_limits(int32_t closed, int32_t opened)
+{
+    if (!limit_good(closed) || !limit_good(opened))
+        return 10;
+    return closed == opened ? 11 : 0;
+}
+
 static uint8_t refuse_record(size_t record_len, int32_t closed, int32_t opened, const uint8_t *label, size_t label_len)
 {
     if (record_len != RECORD)
@@ -572,9 +595,7 @@ static uint8_t refuse_record(size_t record_len, int32_t closed, int32_t opened, 
         return 8;
     if (!all_label(label, label_len))
         return 9;
-    if (!limit_good(closed) || !limit_good(opened))
-        return 10;
-    return closed == opened ? 11 : 0;
+    return refuse_limits(closed, opened);
 }
 
 uint8_t model_record_write(uint8_t *record, size_t record_len, int32_t closed, int32_t opened,
@@ -585,8 +606,7 @@ uint8_t model_record_write(uint8_t *record, size_t record_len, int32_t closed, i
 
     if (refusal)
         return refusal;
-    put_pair(record + CLOSED, (unsigned)closed & 0xffff);
-    put_pair(record + OPENED, (unsigned)opened & 0xffff);
+    put_limits(record, closed, opened);
     record[STATE] = 0xa5;
     record[LENGTH] = (uint8_t)label_len;
     for (i = 0; i < LONGEST; i++)
@@ -653,6 +673,23 @@ uint8_t model_record_read(const uint8_t *record, size_t record_len, int32_t *clo
     *opened = get_limit(record + OPENED);
     *travel = *opened - *closed;
     *label_len = record[LENGTH];
+    return 0;
+}
+
+/* New limits in a good record: what reading refuses (a free record is no gate's: 12), then 10 and 11. */
+uint8_t model_record_limits(uint8_t *record, size_t record_len, int32_t closed, int32_t opened)
+{
+    enum reading reading = read_record(record, record_len);
+    uint8_t refusal = refuse_limits(closed, opened);
+
+    if (reading == FREE)
+        return BAD_STATE;
+    if (reading != GOOD)
+        return (uint8_t)reading;
+    if (refusal)
+        return refusal;
+    put_limits(record, closed, opened);
+    put_pair(record + SUM, sum_of(record));
     return 0;
 }
 

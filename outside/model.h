@@ -14,6 +14,7 @@ uint8_t model_run(struct crep_chip *chip, uint8_t *array, size_t array_len,
 uint8_t model_recover(struct crep_chip *chip, uint8_t *array, size_t array_len, uint8_t pin, uint8_t *pulses);
 uint8_t model_record_write(uint8_t *record, size_t record_len, int32_t closed, int32_t opened,
                            const uint8_t *label, size_t label_len);
+uint8_t model_record_limits(uint8_t *record, size_t record_len, int32_t closed, int32_t opened);
 uint8_t model_record_read(const uint8_t *record, size_t record_len, int32_t *closed, int32_t *opened,
                           int32_t *travel, uint8_t *label_len, uint8_t *free_record);
 uint8_t model_name(const uint8_t *record, size_t record_len, const uint8_t *standard, size_t standard_len,

@@ -40,7 +40,7 @@ void show_trace(FILE *out, const uint8_t *trace, size_t first, size_t last)
 /* The single bytes of a chip in the order of the struct. */
 static const char *const fields[] = {
     "part", "select", "ppen", "bl", "rpel", "pel", "counter_high", "counter_low", "mark", "busy", "scl", "line",
-    "place", "bits", "byte", "high", "count",
+    "phase", "bits", "byte", "high", "count",
 };
 
 enum { FIELDS = sizeof fields / sizeof fields[0] };

@@ -20,22 +20,22 @@ static uint8_t stir_slave(struct chance *chance, int select)
     return (uint8_t)(chance_once_in(chance, 4) ? byte ^ 1u << chance_below(chance, 8) : byte);
 }
 
-static void stir_place(struct chance *chance, struct crep_chip *chip)
+static void stir_phase(struct chance *chance, struct crep_chip *chip)
 {
-    chip->place = (uint8_t)chance_below(chance, 12);
+    chip->phase = (uint8_t)chance_below(chance, 12);
     chip->byte = chance_byte(chance);
     chip->high = chance_byte(chance);
     chip->bits = chance_byte(chance);
-    if (chip->place >= 1 && chip->place <= 4)
+    if (chip->phase >= CREP_PHASE_SLAVE && chip->phase <= CREP_PHASE_DATA)
         chip->bits = (uint8_t)chance_below(chance, 9);
-    else if (chip->place == 9)
+    else if (chip->phase == CREP_PHASE_SENDING)
         chip->bits = (uint8_t)chance_below(chance, 8);
     else if (flag(chance))
         chip->bits = chip->byte = chip->high = 0;
     /* the addresses that set the mark, and slave bytes that name the chip, would be rare otherwise */
-    if (chip->place == 3 && chance_once_in(chance, 3))
+    if (chip->phase == CREP_PHASE_SECOND && chance_once_in(chance, 3))
         chip->byte = chip->high = 0xff;
-    if (chip->place == 1 && flag(chance))
+    if (chip->phase == CREP_PHASE_SLAVE && flag(chance))
         chip->byte = stir_slave(chance, chip->select);
 }
 
@@ -75,11 +75,11 @@ void stir_chip(struct chance *chance, struct crep_chip *chip)
     chip->busy = chance_once_in(chance, 8);
     chip->scl = flag(chance);
     chip->line = flag(chance);
-    stir_place(chance, chip);
+    stir_phase(chance, chip);
     stir_load(chance, chip);
     /* a STOP that is rightly placed, the busiest rule of all */
     if (chance_once_in(chance, 4)) {
-        chip->place = 4;
+        chip->phase = CREP_PHASE_DATA;
         chip->bits = 1;
         chip->high = 0;
         chip->scl = 1;
@@ -103,10 +103,10 @@ void stir_spoil(struct chance *chance, struct crep_chip *chip)
     case 2: chip->bl = above(chance, 4); break;
     case 3: chip->counter_high = above(chance, 0x40); break;
     case 4: chip->count = above(chance, 34); break;
-    case 5: chip->place = above(chance, 12); break;
+    case 5: chip->phase = above(chance, 12); break;
     case 6: chip->places[chance_below(chance, 32)] = above(chance, 2); break;
-    case 7: chip->place = (uint8_t)(1 + chance_below(chance, 4)); chip->bits = above(chance, 9); break;
-    case 8: chip->place = 9; chip->bits = above(chance, 8); break;
+    case 7: chip->phase = (uint8_t)(1 + chance_below(chance, 4)); chip->bits = above(chance, 9); break;
+    case 8: chip->phase = CREP_PHASE_SENDING; chip->bits = above(chance, 8); break;
     default: *flags[chance_below(chance, 7)] = above(chance, 2); break;
     }
 }

@@ -6,7 +6,7 @@
 #include "crepulanter.h"
 #include "wire.h"
 
-/* A chip in range, any place; half of the time with rubbish in the fields that its place does not carry. */
+/* A chip in range, any phase; half of the time with rubbish in the fields that its phase does not carry. */
 void stir_chip(struct chance *chance, struct crep_chip *chip);
 
 /* Puts one field of a chip out of its range. */

@@ -33,7 +33,7 @@ int tally_print(void)
            PRIu64 " names\n", tally.events, tally.traced, tally.recoveries, tally.records, tally.names);
     missing = row("notes", tally.notes, 0, 7);
     missing += row("refusals", tally.refusals, 0, 14);
-    missing += row("places", tally.places, 0, 11);
+    missing += row("phases", tally.phases, 0, 11);
     missing += row("pulses", tally.pulses, 1, 10);
     return missing;
 }

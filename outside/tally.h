@@ -5,20 +5,20 @@
 #include <stdint.h>
 
 struct tally {
-    uint64_t seed, round;       /* `compare -s SEED -r ROUND` comes back to this place */
+    uint64_t seed, round;       /* `compare -s SEED -r ROUND` comes back to this round */
     uint64_t events, traced, recoveries, records, names;
     uint64_t notes[8];
     uint64_t refusals[15];
-    uint64_t places[12];
+    uint64_t phases[12];
     uint64_t pulses[11];
 };
 
 extern struct tally tally;
 
-/* Prints the place where the comparison stands, as the head of a report of a difference. */
+/* Prints where the comparison stands, as the head of a report of a difference. */
 void tally_difference(const char *call);
 
-/* Prints the counts. Returns how many notes, refusals, places and pulse numbers were never reached. */
+/* Prints the counts. Returns how many notes, refusals, phases and pulse numbers were never reached. */
 int tally_print(void);
 
 #endif

@@ -1,5 +1,5 @@
 /*
- * The levels, the pull, the place and the byte under way stay in registers (struct hot, which is never stored);
+ * The levels, the pull, the phase and the byte under way stay in registers (struct hot, which is never stored);
  * what comes once a byte or less often goes through the chip. Clocks inside a byte are taken two events at a time.
  */
 #include "tuned.h"
@@ -9,7 +9,7 @@
 enum { IDLE, SLAVE, HIGH, LOW, DATA, ACK_W, ACK_R, ACK_H, ACK_D, SEND, WAIT, NEXT };
 
 struct hot {
-    unsigned scl, line, pull, place, busy;
+    unsigned scl, line, pull, phase, busy;
     unsigned bit;       /* receiving: bits received; sending: the bit on the wire */
     unsigned byte;      /* its low eight bits are what was received, or the byte sent */
 };
@@ -17,13 +17,13 @@ struct hot {
 static int good_chip(const struct crep_chip *c)
 {
     unsigned flags = c->ppen | c->rpel | c->pel | c->mark | c->busy | c->scl | c->line;
-    unsigned most = c->place == SEND ? 7 : c->place >= SLAVE && c->place <= DATA ? 8 : 255;
+    unsigned most = c->phase == SEND ? 7 : c->phase >= SLAVE && c->phase <= DATA ? 8 : 255;
     int i;
 
     for (i = 0; i < 32; i++)
         flags |= c->places[i];
     return flags <= 1 && c->part <= 1 && c->select <= 7 && c->bl <= 3 && c->counter_high <= 0x3f && c->count <= 33
-        && c->place <= NEXT && c->bits <= most;
+        && c->phase <= NEXT && c->bits <= most;
 }
 
 static int good_events(const uint8_t *trace, size_t n)
@@ -39,23 +39,23 @@ static int good_events(const uint8_t *trace, size_t n)
 /* Chip to registers. */
 static struct hot heat(const struct crep_chip *c)
 {
-    struct hot h = { c->scl, c->line, 0, c->place, c->busy, c->bits, c->byte };
+    struct hot h = { c->scl, c->line, 0, c->phase, c->busy, c->bits, c->byte };
 
-    h.pull = (h.place >= ACK_W && h.place <= ACK_D) || (h.place == SEND && !(h.byte >> h.bit & 1));
+    h.pull = (h.phase >= ACK_W && h.phase <= ACK_D) || (h.phase == SEND && !(h.byte >> h.bit & 1));
     return h;
 }
 
 /* Registers to chip. */
 static void cool(struct crep_chip *c, struct hot h)
 {
-    int carries = (h.place >= SLAVE && h.place <= DATA) || h.place == SEND;
+    int carries = (h.phase >= SLAVE && h.phase <= DATA) || h.phase == SEND;
 
     c->scl = (uint8_t)h.scl;
     c->line = (uint8_t)h.line;
-    c->place = (uint8_t)h.place;
+    c->phase = (uint8_t)h.phase;
     c->bits = carries ? (uint8_t)h.bit : 0;
     c->byte = carries ? (uint8_t)h.byte : 0;
-    if (h.place != LOW && h.place != ACK_H)
+    if (h.phase != LOW && h.phase != ACK_H)
         c->high = 0;
 }
 
@@ -78,7 +78,7 @@ static unsigned drop(struct crep_chip *c)
     return note;
 }
 
-/* A data byte at its last fall: the next place, and note 7 by way of *note. */
+/* A data byte at its last fall: the next phase, and note 7 by way of *note. */
 static unsigned data(struct crep_chip *c, unsigned byte, unsigned *note)
 {
     unsigned at = c->mark ? 0 : c->counter_low & 31;
@@ -106,10 +106,10 @@ static unsigned address(struct crep_chip *c, unsigned low)
     return ACK_D;
 }
 
-/* The place after the fall that ends a received byte. */
-static unsigned taken(struct crep_chip *c, unsigned place, unsigned byte, unsigned *note)
+/* The phase after the fall that ends a received byte. */
+static unsigned taken(struct crep_chip *c, unsigned phase, unsigned byte, unsigned *note)
 {
-    switch (place) {
+    switch (phase) {
     case SLAVE:
         return (byte & 0xfe) != (0xa0u | c->select * 2u) ? IDLE : byte & 1 ? ACK_R : ACK_W;
     case HIGH:
@@ -128,7 +128,7 @@ static unsigned sent(const struct crep_chip *c, const uint8_t *array)
     return c->mark ? (unsigned)(c->ppen << 7 | c->bl << 3 | c->rpel << 2 | c->pel << 1) : array[counter(c)];
 }
 
-/* The place after bit 0 of a sent byte. */
+/* The phase after bit 0 of a sent byte. */
 static unsigned sent_all(struct crep_chip *c)
 {
     unsigned was = c->mark;
@@ -175,7 +175,7 @@ static unsigned set_register(struct crep_chip *c, unsigned v, unsigned pin)
     return 2;
 }
 
-/* placed: in the data place with one bit received. */
+/* placed: in the data phase with one bit received. */
 static unsigned stop(struct crep_chip *c, uint8_t *array, int placed, unsigned pin)
 {
     unsigned note = 0;
@@ -214,13 +214,13 @@ static void slow(struct crep_chip *c, struct hot *h, unsigned event)
 
 static inline void rise(struct hot *h, unsigned now)
 {
-    if (h->place <= DATA) {
+    if (h->phase <= DATA) {
         if (h->bit < 8) {
             h->byte = h->byte << 1 | now;
             h->bit++;
         }
-    } else if (h->place == WAIT) {
-        h->place = now ? IDLE : NEXT;
+    } else if (h->phase == WAIT) {
+        h->phase = now ? IDLE : NEXT;
     }
 }
 
@@ -235,18 +235,18 @@ static unsigned turn(struct crep_chip *c, struct hot *h, const uint8_t *array)
 {
     unsigned note = 0;
 
-    if (h->place <= DATA) {
-        h->place = taken(c, h->place, h->byte & 0xff, &note);
-        h->pull = h->place != IDLE;
-    } else if (h->place == ACK_R || h->place == NEXT) {
+    if (h->phase <= DATA) {
+        h->phase = taken(c, h->phase, h->byte & 0xff, &note);
+        h->pull = h->phase != IDLE;
+    } else if (h->phase == ACK_R || h->phase == NEXT) {
         h->byte = sent(c, array);
-        h->place = SEND;
+        h->phase = SEND;
         send_bit(h, 7);
-    } else if (h->place == SEND) {
-        h->place = sent_all(c);
+    } else if (h->phase == SEND) {
+        h->phase = sent_all(c);
         h->pull = 0;
-    } else if (h->place != WAIT) {
-        h->place = h->place == ACK_W ? HIGH : h->place == ACK_H ? LOW : DATA;
+    } else if (h->phase != WAIT) {
+        h->phase = h->phase == ACK_W ? HIGH : h->phase == ACK_H ? LOW : DATA;
         h->byte = h->bit = h->pull = 0;
     }
     return note;
@@ -254,9 +254,9 @@ static unsigned turn(struct crep_chip *c, struct hot *h, const uint8_t *array)
 
 static inline unsigned fall(struct crep_chip *c, struct hot *h, const uint8_t *array)
 {
-    if (h->place <= DATA && (h->bit < 8 || h->place == IDLE))
+    if (h->phase <= DATA && (h->bit < 8 || h->phase == IDLE))
         return 0;
-    if (h->place != SEND || h->bit == 0)
+    if (h->phase != SEND || h->bit == 0)
         return turn(c, h, array);
     send_bit(h, h->bit - 1);
     return 0;
@@ -268,10 +268,10 @@ static unsigned start_or_stop(struct crep_chip *c, struct hot *h, uint8_t *array
 
     if (h->line) {
         note = drop(c);
-        h->place = SLAVE;
+        h->phase = SLAVE;
     } else {
-        note = stop(c, array, h->place == DATA && h->bit == 1, pin);
-        h->place = IDLE;
+        note = stop(c, array, h->phase == DATA && h->bit == 1, pin);
+        h->phase = IDLE;
         h->busy = c->busy;
     }
     h->byte = h->bit = h->pull = 0;
@@ -287,14 +287,14 @@ static inline int is_clock(const uint8_t *e)
 /* Whole clocks inside a byte, from SCL high: no rule but that of the bit can apply. Returns the next event. */
 static inline size_t clocks(struct hot *h, const uint8_t *trace, size_t i, size_t n, uint8_t *answers)
 {
-    if (h->place - SLAVE <= DATA - SLAVE) {
+    if (h->phase - SLAVE <= DATA - SLAVE) {
         for (; h->bit < 8 && i + 1 < n && is_clock(trace + i); i += 2, h->bit++) {
             h->line = trace[i + 1] >> 1 & 1;
             h->byte = h->byte << 1 | h->line;
             answers[i] = trace[i] >> 1 & 1;
             answers[i + 1] = (uint8_t)h->line;
         }
-    } else if (h->place == SEND) {
+    } else if (h->phase == SEND) {
         for (; h->bit > 0 && i + 1 < n && is_clock(trace + i); i += 2) {
             send_bit(h, h->bit - 1);
             h->line = trace[i + 1] >> 1 & ~h->pull & 1;
