@@ -1,5 +1,7 @@
 #include "driver.h"
 
+#include "board.h"
+
 enum { SLAVE_WRITE = 0xa0, SLAVE_READ = 0xa1, SECTOR = 32, PULSES = 10, POLLS = 1000 };
 
 /* ---- The wires ---- */

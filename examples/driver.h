@@ -1,18 +1,12 @@
 /*
  * A bit-banging driver for the X24128 and X24F128 on two wires, small enough to read before it is trusted. It stands
- * over two functions that a board supplies: on a panel they move port pins, in host_test.c they move the model.
+ * over board_wires and board_line of board.h: on a panel they move port pins, in a host test they move the model.
  */
 #ifndef DRIVER_H
 #define DRIVER_H
 
 #include <stddef.h>
 #include <stdint.h>
-
-/* Supplied by the board. Sets both wires at once: 0 pulls a wire low, 1 lets it go. */
-void board_wires(int scl, int sda);
-
-/* Supplied by the board. The level of the data wire, which the chip may pull too. */
-int board_line(void);
 
 /* ---- The wires ---- */
 

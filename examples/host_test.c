@@ -1,21 +1,21 @@
 /*
- * A firmware's test on the host: the driver of driver.c runs on the model of the chip in place of a board. It writes a
+ * A firmware's test on the host: the driver of driver.c runs on the board of board.c in place of a panel. It writes a
  * gate's record and reads it back, shows what a label of 27 characters does, hangs the bus and frees it. Prints a
- * report; the exit status is 1 where a step did not go as expected.
+ * report; the exit status is 1 where a step did not go as expected, 2 where the test itself went wrong.
  */
 #include <stdio.h>
 #include <string.h>
 
-#include "crepulanter.h"
+#include "board.h"
 #include "driver.h"
 
-enum { GATE = 7, SELECT = 2, CYCLE = 150 };
+enum { GATE = 7, SELECT = 2, POLLS = 3 };
 
-/* ---- The board: two wires that lead to the model ---- */
-
-static struct crep_chip chip;
-static uint8_t array[CREP_ARRAY];
-static int line, last_note, samples_busy, wrong;
+static const char label[] = "NORTH YARD";
+static const char long_label[] = "NORTH YARD, DELIVERIES ONLY";
+static uint8_t record[CREP_RECORD];
+static uint8_t *const sector = board.array + GATE * CREP_RECORD;
+static int wrong;
 
 /* Prints a step of the report, and counts it where it is not as expected. */
 static void step(int good, const char *text)
@@ -24,69 +24,20 @@ static void step(int good, const char *text)
     wrong += !good;
 }
 
-static void event(uint8_t byte)
-{
-    uint8_t answer, refusal = crep_event(&chip, array, sizeof array, byte, &answer);
-
-    if (refusal != 0)
-        step(0, "the model refused an event");
-    line = CREP_LINE(answer);
-    if (CREP_NOTE(answer) != 0)
-        last_note = CREP_NOTE(answer);
-}
-
-/* A cycle lasts up to 10 ms on a panel; here it ends after some samples. */
-void board_wires(int scl, int sda)
-{
-    samples_busy = chip.busy ? samples_busy + 1 : 0;
-    if (samples_busy > CYCLE)
-        event(CREP_DONE);
-    event((uint8_t)((scl ? CREP_SCL : 0) | (sda ? CREP_SDA : 0)));
-}
-
-int board_line(void)
-{
-    return line;
-}
-
-/* A chip of this part as it comes from the drawer: every byte FFh. */
-static void fit_chip(uint8_t part)
-{
-    crep_new(&chip, part, SELECT);
-    memset(array, 0xff, sizeof array);
-    line = 1;
-    last_note = 0;
-}
-
-/* The last note since this was last asked. */
-static int note(void)
-{
-    int n = last_note;
-
-    last_note = 0;
-    return n;
-}
-
-/* ---- The report ---- */
-
-static const char label[] = "NORTH YARD";
-static const char long_label[] = "NORTH YARD, DELIVERIES ONLY";
-static uint8_t record[CREP_RECORD];
-
-static void show_sector(const char *title)
+static void show_sector(void)
 {
     int i;
 
-    printf("          %-8s", title);
+    printf("          sector  ");
     for (i = 0; i < CREP_RECORD; i++)
-        printf(" %02x", array[GATE * CREP_RECORD + i]);
+        printf(" %02x", sector[i]);
     printf("\n");
 }
 
 /* What a panel would make of the sector's first two bytes. */
 static int closed_limit(void)
 {
-    return (int16_t)(array[GATE * CREP_RECORD] << 8 | array[GATE * CREP_RECORD + 1]);
+    return (int16_t)(sector[0] << 8 | sector[1]);
 }
 
 /* Reads the record in the chip back over the wires; returns the refusal of reading it. */
@@ -106,16 +57,18 @@ static void report_record(void)
     uint8_t from_record;
 
     printf("1. A gate's record goes over the wires and comes back\n");
-    step(memory_enable(SELECT) && note() == 3, "02h to the register: PEL set (note 3)");
-    step(crep_record_write(record, sizeof record, 150, -200, (const uint8_t *)label, sizeof label - 1) == 0,
-         "record made: closed 150, open -200, \"NORTH YARD\"");
-    step(memory_write_sector(SELECT, GATE, record) && note() == 1,
-         "32 bytes to sector 7: written (note 1), cycle ended");
-    show_sector("sector");
-    step(read_gate(&closed, &opened, &travel) == 0 && closed == 150 && opened == -200 && travel == -350,
+    step(memory_enable(SELECT) && board_note() == CREP_NOTE_LATCH, "02h to the register: PEL set (note 3)");
+    board_taken(crep_record_write(record, sizeof record, 150, 900, (const uint8_t *)label, sizeof label - 1));
+    board_taken(crep_record_limits(record, sizeof record, 150, -200));
+    step(memcmp(record + 6, label, sizeof label - 1) == 0,
+         "record made, then its limits changed to closed 150, open -200: the label \"NORTH YARD\" stays");
+    step(memory_write_sector(SELECT, GATE, record) && board_note() == CREP_NOTE_STORED,
+         "32 bytes to sector 7: stored (note 1), cycle waited out");
+    show_sector();
+    step(read_gate(&closed, &opened, &travel) == CREP_OK && closed == 150 && opened == -200 && travel == -350,
          "read back: limits 150 and -200, travel -350");
-    crep_name(array + GATE * CREP_RECORD, CREP_RECORD, (const uint8_t *)"GATE", 4, &start, &len, &from_record);
-    printf("          name shown: \"%.*s\"\n\n", (int)len, (const char *)array + GATE * CREP_RECORD + start);
+    crep_name(sector, CREP_RECORD, (const uint8_t *)"GATE", 4, &start, &len, &from_record);
+    printf("          name shown: \"%.*s\"\n\n", (int)len, (const char *)sector + start);
 }
 
 /* The old kit's mistake: the label alone, unchecked, at its place in the sector. */
@@ -134,22 +87,26 @@ static void report_long_label(void)
 
     memcpy(copy, record, sizeof copy);
     printf("2. A label of 27 characters\n");
-    step(crep_record_write(copy, sizeof copy, 150, -200, (const uint8_t *)long_label, sizeof long_label - 1) == 8
-         && memcmp(copy, record, sizeof copy) == 0, "the kit refuses it (8) and keeps the record");
-    step(send_long_label() && note() == 1, "sent past the kit to byte 6 of the sector: the X24128 takes it (note 1)");
-    show_sector("sector");
+    step(crep_record_write(copy, sizeof copy, 150, -200, (const uint8_t *)long_label, sizeof long_label - 1)
+         == CREP_REFUSED_LABEL_LENGTH && memcmp(copy, record, sizeof copy) == 0,
+         "the kit refuses it (8) and keeps the record");
+    step(send_long_label() && board_note() == CREP_NOTE_STORED,
+         "sent past the kit to byte 6 of the sector: the X24128 takes it (note 1)");
+    show_sector();
     snprintf(text, sizeof text, "the 27th character is in byte 0: closed limit was 150, is %d", closed_limit());
     step(closed_limit() == 'Y' * 256 + 150, text);
-    step(read_gate(&closed, &opened, &travel) == 13, "the kit refuses to read it (13, sum wrong): no gate moves by it");
+    step(read_gate(&closed, &opened, &travel) == CREP_REFUSED_SUM,
+         "the kit refuses to read it (13, sum wrong): no gate moves by it");
 }
 
 static void report_other_part(void)
 {
     printf("   The same firmware on an X24F128\n");
-    fit_chip(1);
-    step(memory_enable(SELECT) && memory_write_sector(SELECT, GATE, record) && note() == 1,
-         "32 bytes: written (note 1)");
-    step(send_long_label() && note() == 5 && closed_limit() == 150,
+    board_new(CREP_X24F128, SELECT);
+    board.polls = POLLS;
+    step(memory_enable(SELECT) && memory_write_sector(SELECT, GATE, record) && board_note() == CREP_NOTE_STORED,
+         "32 bytes: stored (note 1)");
+    step(send_long_label() && board_note() == CREP_NOTE_NOT_32 && closed_limit() == 150,
          "27 bytes: nothing written (note 5), limit still 150");
     printf("\n");
 }
@@ -171,30 +128,31 @@ static void hang(void)
 static void report_hang(void)
 {
     int32_t closed, opened, travel;
-    struct crep_chip hung;
-    uint8_t pulses;
-    int own;
+    struct board hung;
+    int pulses, own;
     char text[80];
 
     printf("3. The bus hangs in mid-byte\n");
     hang();
     board_wires(1, 1);
     step(board_line() == 0, "both wires let go, and the data wire stays low: the chip is sending a 0");
-    hung = chip;
-    step(crep_recover(&chip, array, sizeof array, 0, &pulses) == 0 && pulses == 6 && chip.place == 1,
-         "crep_recover frees it in 6 pulses and makes a start");
-    chip = hung;
+    hung = board;
+    pulses = board_recover();
+    step(pulses == 6 && board.chip.phase == CREP_PHASE_SLAVE, "crep_recover frees it in 6 pulses and makes a start");
+    board = hung;
     own = wires_free();
     snprintf(text, sizeof text, "the driver's own loop frees it too: %d pulses, crep_recover took %d", own, pulses);
-    step(own == pulses && chip.place == 1, text);
-    step(read_gate(&closed, &opened, &travel) == 0 && closed == 150 && travel == -350, "the record reads as before");
+    step(own == pulses && board.chip.phase == CREP_PHASE_SLAVE, text);
+    step(read_gate(&closed, &opened, &travel) == CREP_OK && closed == 150 && travel == -350,
+         "the record reads as before");
     printf("\n");
 }
 
 int main(void)
 {
     printf("Gate memory on the bench: X24128, select %d, gate %d in sector %d\n\n", SELECT, GATE, GATE);
-    fit_chip(0);
+    board_new(CREP_X24128, SELECT);
+    board.polls = POLLS;
     report_record();
     report_long_label();
     report_other_part();

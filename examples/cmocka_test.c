@@ -1,0 +1,96 @@
+/*
+ * The same board under CMocka (Debian: libcmocka-dev): each test has a new chip, and a refused call fails the test at
+ * the line that made it.
+ */
+#include <setjmp.h>
+#include <stdarg.h>
+#include <stddef.h>
+#include <stdint.h>
+#include <string.h>
+
+#include <cmocka.h>
+
+#include "board.h"
+#include "driver.h"
+
+enum { GATE = 7, SELECT = 2 };
+
+static void fail_test(const char *file, int line, const char *reason)
+{
+    print_error("%s:%d: %s\n", file, line, reason);
+    _fail(file, line);
+}
+
+/* A new X24128 with PEL set and a good record at hand. */
+static int new_board(void **state)
+{
+    static uint8_t record[CREP_RECORD];
+
+    board_stop = fail_test;
+    board.trace = NULL;
+    board_new(CREP_X24128, SELECT);
+    board_taken(crep_record_write(record, sizeof record, 150, -200, (const uint8_t *)"NORTH", 5));
+    *state = record;
+    return !memory_enable(SELECT);
+}
+
+static void a_record_comes_back(void **state)
+{
+    uint8_t bytes[CREP_RECORD];
+
+    board.polls = 3;
+    assert_true(memory_write_sector(SELECT, GATE, *state));
+    assert_int_equal(board_note(), CREP_NOTE_STORED);
+    assert_true(memory_read_sector(SELECT, GATE, bytes));
+    assert_memory_equal(bytes, *state, CREP_RECORD);
+}
+
+/* The driver asks in vain as often as the cycle lasts, and gives up on a chip that never ends. */
+static void the_driver_waits(void **state)
+{
+    board.polls = 5;
+    assert_true(memory_write(SELECT, GATE * CREP_RECORD, *state, CREP_RECORD));
+    assert_int_equal(memory_wait(SELECT, 100), 6);
+    board.polls = BOARD_NEVER;
+    assert_true(memory_write(SELECT, GATE * CREP_RECORD, *state, CREP_RECORD));
+    assert_int_equal(memory_wait(SELECT, 100), 0);
+    board_done();
+    assert_int_equal(memory_wait(SELECT, 100), 1);
+}
+
+static void a_locked_sector_stays(void **state)
+{
+    board.chip.bl = 3;
+    assert_true(memory_write_sector(SELECT, GATE, *state));
+    assert_int_equal(board_note(), CREP_NOTE_LOCKED);
+    assert_int_equal(board.array[GATE * CREP_RECORD], 0xff);
+}
+
+/* What was recorded, run by crep_run on a new chip, ends in the same chip and array. */
+static void a_trace_runs_again(void **state)
+{
+    static uint8_t trace[CREP_TRACE], answers[CREP_TRACE], array[CREP_ARRAY];
+    struct crep_chip chip;
+
+    board.trace = trace;
+    board.trace_room = sizeof trace;
+    board_new(CREP_X24128, SELECT);
+    assert_true(memory_enable(SELECT) && memory_write_sector(SELECT, GATE, *state));
+    memset(array, 0xff, sizeof array);
+    board_taken(crep_new(&chip, CREP_X24128, SELECT));
+    board_taken(crep_run(&chip, array, sizeof array, trace, board.trace_len, answers, sizeof answers));
+    assert_memory_equal(&chip, &board.chip, sizeof chip);
+    assert_memory_equal(array, board.array, sizeof array);
+}
+
+int main(void)
+{
+    const struct CMUnitTest tests[] = {
+        cmocka_unit_test_setup(a_record_comes_back, new_board),
+        cmocka_unit_test_setup(the_driver_waits, new_board),
+        cmocka_unit_test_setup(a_locked_sector_stays, new_board),
+        cmocka_unit_test_setup(a_trace_runs_again, new_board),
+    };
+
+    return cmocka_run_group_tests_name("gate memory", tests, NULL, NULL);
+}
