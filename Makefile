@@ -1,4 +1,5 @@
 # make             the library, target/staticlib/libcrepulanter.a: proved again only where a source has changed
+# make bench       the bench program, target/bin/bench, likewise
 # make install     header, library, pkg-config and CMake files under PREFIX (/usr/local)
 #
 # LIB=FILE takes a library that is built already. The gate is .ci/run; examples/ and outside/ have targets of their own.
@@ -16,23 +17,25 @@ SOURCES = crates.txt $(shell find crates -name must-fail -prune -o \( -type d -o
 library bench:
 	@:
 
-# A library or bench program that is named on the command line is taken as it stands.
+# What rt says is shown only where it fails.
+define prove
+@mkdir -p target
+@echo "rt $(1): proving and building, a minute or two; only where a source has changed"
+@rt $(1) > target/rt.log 2>&1 || { cat target/rt.log; exit 1; }
+@touch $@
+endef
+
+# What is named on the command line is taken as it stands.
 ifneq ($(origin LIB),command line)
 library: $(LIB)
 $(LIB): $(SOURCES)
-	@mkdir -p target
-	@echo "proving and building the library: a minute or two, only where a source has changed"
-	@rt staticlib crepulanter > target/library.log 2>&1 || { cat target/library.log; exit 1; }
-	@touch $@
+	$(call prove,staticlib crepulanter)
 endif
 
 ifneq ($(origin BENCH),command line)
 bench: $(BENCH)
 $(BENCH): $(SOURCES)
-	@mkdir -p target
-	@echo "proving and building the bench program: a minute or two, only where a source has changed"
-	@rt check bench > target/bench.log 2>&1 || { cat target/bench.log; exit 1; }
-	@touch $@
+	$(call prove,check bench)
 endif
 
 install: library
