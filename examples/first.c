@@ -45,6 +45,7 @@ int main(void)
     wires(0, 0); wires(1, 0); wires(1, 1);          /* STOP */
     int note = CREP_NOTE(answer), hit = array[0] | array[1] | array[2] | array[3];
     if (note != CREP_NOTE_STORED) wrong("nothing stored, note", note, crep_note_text(note));
-    printf("note 1, closed limit %02x %02x: %s\n", array[0], array[1], hit ? "MISTAKE FOUND, the label ran into it" : "as before");
+    printf("note 1, closed limit %02x %02x: %s\n", array[0], array[1],
+           hit ? "MISTAKE FOUND, the label ran into it" : "as before");
     return hit != 0;                                /* 1: the write went round into the limit */
 }

@@ -246,7 +246,9 @@ static void held_chip(struct chance *chance, struct crep_chip *chip)
 {
     stir_chip(chance, chip);
     if (chance_once_in(chance, 2)) {
-        chip->phase = (uint8_t)(chance_once_in(chance, 2) ? CREP_PHASE_SENDING : CREP_PHASE_ACK_WRITE + chance_below(chance, 4));
+        chip->phase = (uint8_t)(CREP_PHASE_ACK_WRITE + chance_below(chance, 4));
+        if (chance_once_in(chance, 2))
+            chip->phase = CREP_PHASE_SENDING;
         chip->bits = (uint8_t)chance_below(chance, 8);
         chip->byte = chance_once_in(chance, 2) ? 0 : chance_byte(chance);
         chip->busy = 0;
