@@ -157,7 +157,8 @@ extern "C" {
 
 /*
  * A chip: single bytes with no padding. Every field may be looked at and set; a value out of its range makes the next
- * call refuse with 2. A flag is 0 or 1, anything else is out of range.
+ * call refuse with 2. A flag is 0 or 1, anything else is out of range. Begin with crep_new and set fields then: later
+ * versions add fields at the end.
  *
  *     part          CREP_X24128 or CREP_X24F128                                                  0-1
  *     select        the chip's S2 S1 S0 pins                                                     0-7
