@@ -83,6 +83,37 @@ static void a_trace_runs_again(void **state)
     assert_memory_equal(array, board.array, sizeof array);
 }
 
+/* Most drivers move one pin at a time, with the clock low between bits: a byte, and whether it was acknowledged. */
+static int send_pin_by_pin(uint8_t byte)
+{
+    int i, low;
+
+    for (i = 7; i >= 0; i--) {
+        board_sda(byte >> i & 1);
+        board_scl(1);
+        board_scl(0);
+    }
+    board_sda(1);
+    board_scl(1);
+    low = !board_line();
+    board_scl(0);
+    return low;
+}
+
+static void one_pin_at_a_time(void **state)
+{
+    (void)state;
+    board_sda(0);
+    board_scl(0);
+    assert_true(send_pin_by_pin(0xa0 | SELECT << 1) && send_pin_by_pin(0x00) && send_pin_by_pin(0xe0));
+    assert_true(send_pin_by_pin('N'));
+    board_sda(0);
+    board_scl(1);
+    board_sda(1);
+    assert_int_equal(board_note(), CREP_NOTE_STORED);
+    assert_int_equal(board.array[GATE * CREP_RECORD], 'N');
+}
+
 int main(void)
 {
     const struct CMUnitTest tests[] = {
@@ -90,6 +121,7 @@ int main(void)
         cmocka_unit_test_setup(the_driver_waits, new_board),
         cmocka_unit_test_setup(a_locked_sector_stays, new_board),
         cmocka_unit_test_setup(a_trace_runs_again, new_board),
+        cmocka_unit_test_setup(one_pin_at_a_time, new_board),
     };
 
     return cmocka_run_group_tests_name("gate memory", tests, NULL, NULL);
