@@ -70,7 +70,7 @@ module _ {e : Event} {c : Chip} {xs : List ℕ} {after : Register} {busy : Bool}
       let noted : Noted (c .register) (record { register = after; busy = busy; note = note }) = changed-noted d in
       record {
         one = λ n. absurd (omega (arith, noted .only (λ two. omega arith) (λ three. omega arith)));
-        two = λ n. (d, noted .two n .0, noted .two n .1);
+        two = λ n. (d, noted .two n .0, noted .two n .1, noted .two n .2);
         three = λ n. (d, noted .three n .0, noted .three n .1, noted .three n .2);
         more = λ n.
             let six : note ≡ 6 = noted .only (λ two. omega arith) (λ three. omega arith) in

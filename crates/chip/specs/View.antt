@@ -135,10 +135,10 @@ pub record Untouched (c : Chip) (xs : List ℕ) (after : Register) (busy : Bool)
   pub register : after ≡ c .register
   pub same : busy ≡ c .busy
 
--- What each note says: 1 a store, 2 PPEN and BL written by a cycle, 3 a latch written, 4 to 7 that nothing was
+-- What each note says: 1 a store, 2 PPEN and BL written by a cycle, which PEL survives, 3 a latch written, 4 to 7 that nothing was
 pub record Told (e : Event) (c : Chip) (xs : List ℕ) (after : Register) (busy : Bool) (note : ℕ) (ys : List ℕ) : Type 0 where
   pub one : note ≡ 1 → Stored e c xs after busy note ys
-  pub two : note ≡ 2 → Changed e c xs after busy note ys × (after .rpel ≡ false) × (busy ≡ true)
+  pub two : note ≡ 2 → Changed e c xs after busy note ys × (after .rpel ≡ false) × (after .pel ≡ c .register .pel) × (busy ≡ true)
   pub three : note ≡ 3 → Changed e c xs after busy note ys × (after .ppen ≡ c .register .ppen) × (after .bl ≡ c .register .bl) × (busy ≡ false)
   pub more : 4 ≤ note → Untouched c xs after busy ys
 

@@ -9,15 +9,25 @@ use parts::register::Register;
 use parts::register::Written;
 
 pub struct Chip {
+    // 0 X24128, 1 X24F128
     pub part: u8,
+    // 0-7
     pub select: u8,
+    // PPEN, BL, RPEL and PEL
     pub register: Register,
+    // the address counter, 0000h-3FFFh
     pub counter: u16,
+    // the register is selected
     pub mark: bool,
+    // a cycle is in progress
     pub busy: bool,
+    // the last SCL level
     pub scl: bool,
+    // the last level of the line
     pub line: bool,
+    // where the transfer stands
     pub phase: Phase,
+    // what came in for a sector since the address
     pub load: Load,
 }
 
@@ -41,10 +51,13 @@ pub enum Effect {
 }
 
 impl Chip {
-    pub const BYTES: usize = 16384;
+    // bytes of the array
+    pub const BYTES: usize = 0x4000;
 
+    // bytes of a sector
     pub const SECTOR: usize = 32;
 
+    // sectors of the array
     pub const SECTORS: usize = 512;
 
     // A chip as power-up leaves it.
@@ -110,7 +123,7 @@ impl Chip {
         (self.part <= 1)
             & (self.select <= 7)
             & (self.register.bl <= 3)
-            & (self.counter <= 16383)
+            & (self.counter <= 0x3fff)
             & fit
             & (load.count <= 33)
     }

@@ -39,11 +39,11 @@ written-kept r byte pin high =
     written-by (λ w. (w .register .ppen ≡ r .ppen) × (w .register .bl ≡ r .bl)) r byte pin (refl, refl) (λ on. (refl, refl)) (refl, refl)
     (λ e. absurd (true≢false (sym high ∙ e)))
 
--- what the note of a register byte says: 6 that nothing changed, 3 that PPEN and BL did not, 2 that a cycle begins; it is no other
+-- what the note of a register byte says: 6 that nothing changed, 3 that PPEN and BL did not, 2 that a cycle begins and PEL stays; it is no other
 pub record Noted (r : Register) (w : Written) : Type 0 where
   pub six : w .note ≡ 6 → (w .register ≡ r) × (w .busy ≡ false)
   pub three : w .note ≡ 3 → (w .register .ppen ≡ r .ppen) × (w .register .bl ≡ r .bl) × (w .busy ≡ false)
-  pub two : w .note ≡ 2 → (w .register .rpel ≡ false) × (w .busy ≡ true)
+  pub two : w .note ≡ 2 → (w .register .rpel ≡ false) × (w .register .pel ≡ r .pel) × (w .busy ≡ true)
   pub only : (w .note ≡ 2 → ⊥) → (w .note ≡ 3 → ⊥) → w .note ≡ 6
 
 -- every byte's note does
@@ -53,7 +53,7 @@ written-noted r byte pin =
     (record { six = λ e. (refl, refl); three = λ e. absurd (omega arith); two = λ e. absurd (omega arith); only = λ not2 not3. refl })
     (λ on. latched on)
     (record { six = λ e. absurd (omega arith); three = λ e. (refl, refl, refl); two = λ e. absurd (omega arith); only = λ not2 not3. absurd (not3 refl) })
-    (λ e ppen. record { six = λ f. absurd (omega arith); three = λ f. absurd (omega arith); two = λ f. (refl, refl); only = λ not2 not3. absurd (not2 refl) })
+    (λ e ppen. record { six = λ f. absurd (omega arith); three = λ f. absurd (omega arith); two = λ f. (refl, refl, refl); only = λ not2 not3. absurd (not2 refl) })
   where
     latched : (on : Bool) → Noted r (outcome (withPel r on) false 3)
     latched on = record { six = λ e. absurd (omega arith); three = λ e. (refl, refl, refl); two = λ e. absurd (omega arith); only = λ not2 not3. absurd (not3 refl) }

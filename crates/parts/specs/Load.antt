@@ -1,5 +1,5 @@
 -- The load: what comes in for a sector, and what a store of it leaves in the array.
--- (The paper, "What a chip carries", "Transfers" and step 3 of an array load.)
+-- (RULES C9, C10, T13, S9.)
 --
 -- | Name | Meaning |
 -- |---|---|
@@ -15,20 +15,20 @@ use lib.Dec.{ltb}
 use lib.ListN.{getD, set, replicate}
 use Rattle.parts.specs.declared.load.Load.{Load}
 
--- zeros, no place loaded, count 0
+-- C10: zeros, no place loaded, count 0
 abbrev pub noLoad : Load
 noLoad = record { bytes = replicate 32 0; places = replicate 32 false; count = 0 }
 
--- 33 stands for 33 or more
+-- C9: 33 stands for 33 or more
 abbrev pub counted : ℕ → ℕ
 counted count = cond (ltb count 33) (count + 1) 33
 
--- the place is the low five bits of the address
+-- T13: the place is the low five bits of the address
 unfoldable pub loaded : Load → ℕ → ℕ → Load
 loaded load at byte =
     record { bytes = set (load .bytes) (at % 32) byte; places = set (load .places) (at % 32) true; count = counted (load .count) }
 
--- one place: loaded, it takes its byte; else it keeps its own
+-- S9: one place: loaded, it takes its byte; else it keeps its own
 abbrev pub placed : List ℕ → ℕ → Load → ℕ → List ℕ
 placed xs start load k = cond (getD (load .places) k false) (set xs (start + k) (getD (load .bytes) k 0)) xs
 

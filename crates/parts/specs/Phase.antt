@@ -1,5 +1,5 @@
 -- Where a chip is in a transfer: what a phase carries, whether the chip pulls there, and what a clock rise makes of it.
--- (The paper, "What a chip carries" and "Samples and edges"; the list of phases is a reading: docs/DECISIONS.md, "Places".)
+-- (RULES C7, C8, L1, L7, T2, T20; the list of phases is a reading: docs/DECISIONS.md.)
 --
 -- | Name | Meaning |
 -- |---|---|
@@ -19,7 +19,7 @@ use Rattle.parts.specs.declared.phase.Phase.the-variants.{Standby, Slave
 abbrev pub weight : Bool → ℕ → ℕ
 weight on w = cond on w 0
 
--- Transfers: the most significant bit comes first; eight bits are kept
+-- T2: the most significant bit comes first; eight bits are kept
 abbrev pub received : ℕ → Bool → ℕ
 received got bit = (got * 2 + weight bit 1) % 256
 
@@ -27,7 +27,7 @@ received got bit = (got * 2 + weight bit 1) % 256
 abbrev pub bitOf : ℕ → ℕ → Bool
 bitOf byte bit = eqb (byte / 2 ^ (bit % 8) % 2) 1
 
--- What a chip carries: bits received are 0-8, the bit being sent is 0-7; nothing else in a phase has a range
+-- C8: bits received are 0-8, the bit being sent is 0-7; nothing else in a phase has a range
 unfoldable pub phaseFits : Phase → Bool
 phaseFits Standby = true
 phaseFits (Slave bits got) = leb bits 8
@@ -42,7 +42,7 @@ phaseFits (Sending bit byte) = leb bit 7
 phaseFits Waiting = true
 phaseFits Next = true
 
--- Samples and edges: an acknowledge pulls, and so does a 0 that is being sent
+-- L1: an acknowledge pulls, and so does a 0 that is being sent
 unfoldable pub phasePulls : Phase → Bool
 phasePulls Standby = false
 phasePulls (Slave bits got) = false
@@ -57,7 +57,7 @@ phasePulls (Sending bit byte) = not (bitOf byte bit)
 phasePulls Waiting = false
 phasePulls Next = false
 
--- Samples and edges, SCL rose: a byte that is coming takes the bit; after a sent byte the master's high bit means standby, its low
+-- T2, T20, L7: a byte that is coming takes the bit; after a sent byte the master's high bit means standby, its low
 -- bit the next byte; a ninth bit and every other phase change nothing (house)
 unfoldable pub risen : Phase → Bool → Phase
 risen Standby bit = Standby

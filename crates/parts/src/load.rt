@@ -7,8 +7,11 @@ ghost use Rattle.parts.specs.Load.{noLoad, loaded, stored};
 
 // 32 bytes, which places are loaded, and how many bytes came, where 33 means 33 or more.
 pub struct Load {
+    // by place of the sector; 0 where none is loaded
     pub bytes: [u8; 32],
+    // which of the 32 places are loaded
     pub places: [bool; 32],
+    // how many bytes came, 0-33
     pub count: u8,
 }
 

@@ -6,9 +6,13 @@ use crate::phase::bit_of;
 use crate::phase::weigh;
 
 pub struct Register {
+    // hardware protection: with the pin high at the stop, PPEN and BL are not written
     pub ppen: bool,
+    // which addresses are locked, 0-3
     pub bl: u8,
+    // the next register byte writes PPEN and BL
     pub rpel: bool,
+    // data for the array is taken
     pub pel: bool,
 }
 

@@ -20,5 +20,5 @@ pub fn next_place(address: u16) -> u16
 pub fn next_address(address: u16) -> u16
     ensures { λ r. ⌜ r ≡ nextAddress address ⌝ }
 {
-    (address % 16384 + 1) % 16384
+    (address % 0x4000 + 1) % 0x4000
 }

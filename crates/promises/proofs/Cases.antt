@@ -1,4 +1,4 @@
--- The worked cases of the paper hold of the definitions, and so do the tests that its errors fail: each list is one computation.
+-- The worked cases hold of the definitions, and so do the tests that the mistakes fail: each list is one computation.
 -- Assumes nothing.
 use lib.Dec.{T}
 use Rattle.parts.specs.Load.{loaded, storedTo}
@@ -31,10 +31,10 @@ computed : T (holds worked) × T (holds errors)
 unfolding loaded storedTo firstLocked phaseFits phasePulls risen latchWritten lockWritten written chipFits pulls reacted reactedArray sampled judged judgedArray next nextArray refusal step noteOf stepped notes eventOf answersOf spelled rightly arrayEffect rightEffect stopEffect effectMoved effectArray slaveTaken addressTaken arrayData registerData byteBegun byteEnded fallIn edgeOf afterPulses pulse pulsed recovered recoveryAnswer inRange same bits16 signed16 labelByte recordOf writeOf writtenOf isFree labelFits limitsFit heldOf readOf byteSent clocks bytesTaken byteTaken randomRead highs bitsIn byteOf
 computed = (tt, tt)
 
--- "Worked on the bench": cases 1-12
+-- cases 1-12
 pub cases-hold : T (holds worked)
 cases-hold = computed .0
 
--- "Errors that look right"
+-- mistakes M1-M4
 pub errors-fail : T (holds errors)
 errors-fail = computed .1

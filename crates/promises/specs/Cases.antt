@@ -3,7 +3,7 @@
 --
 -- | Name | Meaning |
 -- |---|---|
--- | `Case`, `holds` | a case: its number in the paper and its test; whether every test of a list passes |
+-- | `Case`, `holds` | a case: its number in the rules and its test; whether every test of a list passes |
 -- | `agree` | two rows of numbers are equal |
 -- | `upFrom n first` | n numbers, one after the other |
 -- | `samples`, `sent` | the events of wires with the pin at one level; what they leave, the pin low |
@@ -41,7 +41,7 @@ use Rattle.messages.specs.Messages.{begin, message, registerWrite}
 use Rattle.messages.specs.RandomRead.{randomRead, bytesRead}
 use Rattle.messages.specs.Wires.{Wires, wiresOf, played, heardOf, clocks, bitsOf}
 
--- the paper's number, and whether its test passes
+-- its number, and whether its test passes
 pub record Case : Type 0 where
   pub number : ℕ
   pub passes : Bool
@@ -211,7 +211,7 @@ case-11 = eqb (pulsesOf (hung (wiresOf 2 ∷ []))) 10
 abbrev pub case-12 : Bool
 case-12 = eqb (pulsesOf (hung (wiresOf 2 ∷ wiresOf 3 ∷ []))) 9
 
--- "Worked on the bench (1-12 are proved)"
+-- the list of them
 abbrev pub worked : List Case
 worked =
     case 1 case-1
@@ -256,6 +256,6 @@ error-4 =
     && agree (loud (notes (pinAtStop true false 0x02) ready)) (2 ∷ [])
     && agree (loud (notes (pinAtStop false true 0x02) ready)) (6 ∷ [])
 
--- "Errors that look right", in the paper's order
+-- M1 to M4
 abbrev pub errors : List Case
 errors = case 1 error-1 ∷ case 2 error-2 ∷ case 3 error-3 ∷ case 4 error-4 ∷ []

@@ -1,4 +1,4 @@
--- One answer for one input: what a contract allows, and what it means that it leaves no room. (The paper, "Strength of the contracts".)
+-- One answer for one input: what a contract allows, and what it means that it leaves no room. (RULES D4.)
 --
 -- | Name | Meaning |
 -- |---|---|
@@ -47,7 +47,7 @@ module _ (c : Contract) (κs : Lfts (c .lifetimes)) where
   abbrev pub outcome : (input : Input) → Result → Left input → Outcome input
   outcome input r left = (c .had κs r, left)
 
--- "any two answers allowed for one input are equal"
+-- D4: the result and every lent byte
 abbrev pub OneAnswer : Contract → Type 0
 OneAnswer c =
     (κs : Lfts (c .lifetimes)) (input : Input c κs) (r r′ : Result c κs) (left left′ : Left c κs input) →

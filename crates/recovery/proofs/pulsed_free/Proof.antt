@@ -1,4 +1,4 @@
--- `pulsed_free` meets its contract: before pulse k the pulses still to come, 10 - k after it, lead where all ten lead. Assumes nothing.
+-- Before pulse k the pulses still to come, 10 - k after it, lead where all ten lead. Assumes nothing.
 use Prim.Native.Nat.{_≤_, _+_, _-_}
 use mathlib.Core.Path.{_≡_, refl, sym, ap, subst, _∙_}
 use native.Mathlib.Omega.{arith}

@@ -1,4 +1,4 @@
--- `pulsed_once` meets its contract: a run of its two event bytes. Assumes nothing.
+-- A run of its two event bytes. Assumes nothing.
 use mathlib.Core.Path.{refl}
 use borrow.Author.Needs.{needs}
 use Rattle.recovery.proofs.PulseLaws.{run-pulse}

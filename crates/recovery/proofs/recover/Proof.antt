@@ -1,4 +1,4 @@
--- `recover` meets its contract: the pulses, then the start; a refusal leaves all as it was. Assumes nothing.
+-- The pulses, then the start; a refusal leaves all as it was. Assumes nothing.
 use mathlib.Core.Bool.{true, false}
 use mathlib.Core.Path.{_≡_, ap, sym, _∙_}
 use borrow.Author.Needs.{needs}

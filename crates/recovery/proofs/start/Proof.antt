@@ -1,4 +1,4 @@
--- `start` meets its contract: a run of its event byte. Assumes nothing.
+-- A run of its event byte. Assumes nothing.
 use mathlib.Core.Path.{refl}
 use borrow.Author.Needs.{needs}
 use Rattle.recovery.proofs.PulseLaws.{run-start}

@@ -1,4 +1,4 @@
--- `all_events` meets its contract: the test of what is left is the test of the whole. Assumes nothing.
+-- The test of what is left is the test of the whole. Assumes nothing.
 use Prim.Native.Nat.{_≤_, _-_}
 use mathlib.Core.Path.{_≡_, refl, sym}
 use native.Mathlib.Omega.{arith}

@@ -1,4 +1,4 @@
--- `answer_byte` meets its contract. Assumes nothing.
+-- The line weighs 1, the note stands above it. Assumes nothing.
 use borrow.Author.Needs.{needs}
 use native.Mathlib.Omega.{arith}
 use Rattle.trace.proofs.answer_byte.Statement.{statement}

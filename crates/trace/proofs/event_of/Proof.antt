@@ -1,4 +1,4 @@
--- `event_of` meets its contract. Assumes nothing.
+-- The two tests in their order, then the three bits. Assumes nothing.
 use borrow.Author.Needs.{needs}
 use borrow.Author.Tests.{eq-eqb, ne-eqb}
 use Rattle.trace.specs.Bytes.{eventOf}

@@ -1,4 +1,4 @@
--- `run` meets its contract: a trace that is refused leaves all as it was, another has room and is run. Assumes nothing.
+-- A trace that is refused leaves all as it was, another has room and is run. Assumes nothing.
 use mathlib.Core.Path.{sym, _∙_}
 use borrow.Author.Needs.{needs}
 use borrow.Author.Tests.{ne-eqb}

@@ -1,4 +1,4 @@
--- `run_events` meets its contract: before each turn the trace is `Going`. Assumes nothing.
+-- Before each turn the trace is `Going`. Assumes nothing.
 use Prim.Native.Nat.{_≤_, _-_}
 use mathlib.Core.Path.{_≡_, refl, sym, ap, _∙_}
 use native.Mathlib.Omega.{arith}

@@ -1,4 +1,4 @@
--- `run_refusal` meets its contract: each return is its line of `runRefusal`. Assumes nothing.
+-- Each return is its line of `runRefusal`. Assumes nothing.
 use borrow.Author.Needs.{needs}
 use mathlib.Core.Path.{sym, _∙_}
 use borrow.Author.Tests.{eq-eqb, le-leb, lt-leb, ne-eqb}

@@ -1,4 +1,4 @@
--- `rightly_placed` meets its contract: each arm is its clause of `rightly`. Assumes nothing.
+-- Each arm is its clause of `rightly`. Assumes nothing.
 use borrow.Author.Needs.{needs}
 use Rattle.chip.specs.Stop.{rightly}
 use Rattle.chip.proofs.stop.rightly_placed.Statement.{statement}

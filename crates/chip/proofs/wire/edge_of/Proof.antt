@@ -1,4 +1,4 @@
--- `edge_of` meets its contract: each way is its clause of `edgeOf`. Assumes nothing.
+-- Each way is its clause of `edgeOf`. Assumes nothing.
 use borrow.Author.Needs.{needs}
 use Rattle.chip.specs.Wire.{edgeOf}
 use Rattle.chip.proofs.wire.edge_of.Statement.{statement}

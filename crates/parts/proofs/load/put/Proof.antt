@@ -1,4 +1,4 @@
--- `put` meets its contract: a store past the end changes nothing. Assumes nothing.
+-- A store past the end changes nothing. Assumes nothing.
 use borrow.Author.Needs.{needs}
 use Prim.Native.Nat.{_+_, _≤_}
 use native.Mathlib.Omega.{arith}

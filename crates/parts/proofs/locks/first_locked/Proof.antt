@@ -1,4 +1,4 @@
--- `first_locked` meets its contract: past the table the definition has 4000h too. Assumes nothing.
+-- Past the table the definition has 4000h too. Assumes nothing.
 use borrow.Author.Needs.{needs}
 use Rattle.parts.specs.Locks.{firstLocked}
 use Rattle.parts.proofs.LockLaws.{first-past-part, first-past-bl, first-inside}

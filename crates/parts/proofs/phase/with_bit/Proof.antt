@@ -1,4 +1,4 @@
--- `with_bit` meets its contract: what falls out at the top is cut by either remainder. Assumes nothing.
+-- What falls out at the top is cut by either remainder. Assumes nothing.
 use borrow.Author.Needs.{needs}
 use native.Mathlib.Omega.{arith}
 use Rattle.parts.proofs.phase.with_bit.Statement.{statement}

@@ -1,4 +1,4 @@
--- `is_reserved` meets its contract. Assumes nothing.
+-- The three bits are the definition's. Assumes nothing.
 use borrow.Author.Needs.{needs}
 use Rattle.parts.proofs.register.is_reserved.Statement.{statement}
 use Rattle.parts.proofs.register.is_reserved.Tie as tie

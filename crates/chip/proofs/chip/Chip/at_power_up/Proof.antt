@@ -1,4 +1,4 @@
--- `Chip::at_power_up` meets its contract. Assumes nothing.
+-- The empty load is the definition's. Assumes nothing.
 use borrow.Author.Needs.{needs}
 use Rattle.chip.proofs.chip.Chip.at_power_up.Statement.{statement}
 use Rattle.chip.proofs.chip.Chip.at_power_up.Tie as tie

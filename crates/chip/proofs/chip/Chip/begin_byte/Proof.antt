@@ -1,4 +1,4 @@
--- `Chip::begin_byte` meets its contract. Assumes nothing.
+-- The byte that begins is the next one. Assumes nothing.
 use borrow.Author.Needs.{needs}
 use Rattle.chip.specs.Transfer.{byteBegun}
 use Rattle.chip.proofs.chip.Chip.begin_byte.Statement.{statement}

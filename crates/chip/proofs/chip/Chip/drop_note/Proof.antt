@@ -1,4 +1,4 @@
--- `Chip::drop_note` meets its contract. Assumes nothing.
+-- A count of 0 is no load. Assumes nothing.
 use borrow.Author.Needs.{needs}
 use borrow.Author.Tests.{eq-eqb, ne-eqb}
 use Rattle.chip.proofs.chip.Chip.drop_note.Statement.{statement}

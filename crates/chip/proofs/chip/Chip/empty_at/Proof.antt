@@ -1,4 +1,4 @@
--- `Chip::empty_at` meets its contract. Assumes nothing.
+-- The empty load is the definition's. Assumes nothing.
 use borrow.Author.Needs.{needs}
 use Rattle.chip.proofs.chip.Chip.empty_at.Statement.{statement}
 use Rattle.chip.proofs.chip.Chip.empty_at.Tie as tie

@@ -1,4 +1,4 @@
--- `Chip::event` meets its contract. Assumes nothing.
+-- What is refused stays as it was, what is taken is the next chip with its line. Assumes nothing.
 use borrow.Author.Needs.{needs}
 use mathlib.Core.Path.{sym, _∙_}
 use borrow.Author.Tests.{eq-eqb, ne-eqb}

@@ -1,4 +1,4 @@
--- `Chip::fits` meets its contract. Assumes nothing.
+-- The six ranges in the definition's order. Assumes nothing.
 use borrow.Author.Needs.{needs}
 use Rattle.chip.specs.Chip.{chipFits}
 use Rattle.chip.proofs.chip.Chip.fits.Statement.{statement}

@@ -1,4 +1,4 @@
--- `Chip::new` meets its contract. Assumes nothing.
+-- Each of the two tests that fails leads to the standard chip. Assumes nothing.
 use borrow.Author.Needs.{needs}
 use borrow.Author.Tests.{le-leb, lt-leb}
 use Rattle.chip.specs.Chip.{made}

@@ -1,4 +1,4 @@
--- `Chip::next` meets its contract. Assumes nothing.
+-- Each arm is its clause of `next` and `nextArray`. Assumes nothing.
 use borrow.Author.Needs.{needs}
 use Rattle.chip.specs.Event.{next, nextArray}
 use Rattle.chip.proofs.chip.Chip.next.Statement.{statement}

@@ -1,4 +1,4 @@
--- `Chip::pulls` meets its contract. Assumes nothing.
+-- A phase pulls where the chip is not busy. Assumes nothing.
 use borrow.Author.Needs.{needs}
 use Rattle.chip.specs.Chip.{pulls}
 use Rattle.chip.proofs.chip.Chip.pulls.Statement.{statement}

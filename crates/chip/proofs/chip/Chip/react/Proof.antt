@@ -1,4 +1,4 @@
--- `Chip::react` meets its contract. Assumes nothing.
+-- Each arm is its clause of `reacted`, and only the stop's writes. Assumes nothing.
 use borrow.Author.Needs.{needs}
 use Rattle.chip.specs.Event.{reacted, reactedArray}
 use Rattle.chip.proofs.chip.Chip.react.Statement.{statement}

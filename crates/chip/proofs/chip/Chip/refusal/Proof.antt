@@ -1,4 +1,4 @@
--- `Chip::refusal` meets its contract. Assumes nothing.
+-- The length is asked before the ranges. Assumes nothing.
 use borrow.Author.Needs.{needs}
 use mathlib.Core.Path.{sym, _∙_}
 use borrow.Author.Tests.{eq-eqb, ne-eqb}

@@ -1,4 +1,4 @@
--- `Chip::rise` meets its contract. Assumes nothing.
+-- The phase takes the bit, and nothing else changes. Assumes nothing.
 use borrow.Author.Needs.{needs}
 use Rattle.chip.proofs.chip.Chip.rise.Statement.{statement}
 use Rattle.chip.proofs.chip.Chip.rise.Tie as tie

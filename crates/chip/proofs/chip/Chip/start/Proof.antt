@@ -1,4 +1,4 @@
--- `Chip::start` meets its contract. Assumes nothing.
+-- The load is dropped with its note. Assumes nothing.
 use borrow.Author.Needs.{needs}
 use Rattle.chip.proofs.chip.Chip.start.Statement.{statement}
 use Rattle.chip.proofs.chip.Chip.start.Tie as tie

@@ -1,4 +1,4 @@
--- `Chip::stop` meets its contract. Assumes nothing.
+-- Each effect leaves its clause of `effectMoved` and `effectArray`. Assumes nothing.
 use borrow.Author.Needs.{needs}
 use mathlib.Core.Path.{sym, _∙_}
 use Rattle.chip.specs.Stop.{effectMoved, effectArray}

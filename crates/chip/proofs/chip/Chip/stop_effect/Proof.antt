@@ -1,4 +1,4 @@
--- `Chip::stop_effect` meets its contract. Assumes nothing.
+-- The three cases in their order. Assumes nothing.
 use borrow.Author.Needs.{needs}
 use mathlib.Core.Path.{sym, _∙_}
 use Rattle.chip.specs.Stop.{stopEffect}

@@ -1,4 +1,4 @@
--- `Chip::take_address` meets its contract. Assumes nothing.
+-- FFFFh leaves the counter, any other address its low fourteen bits. Assumes nothing.
 use borrow.Author.Needs.{needs}
 use borrow.Author.Tests.{eq-eqb, ne-eqb}
 use Rattle.chip.specs.Transfer.{addressTaken}

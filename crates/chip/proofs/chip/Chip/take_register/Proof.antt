@@ -1,4 +1,4 @@
--- `Chip::take_register` meets its contract. Assumes nothing.
+-- A first byte stands at place 0, a second drops the load. Assumes nothing.
 use borrow.Author.Needs.{needs}
 use borrow.Author.Tests.{eq-eqb, ne-eqb}
 use Rattle.chip.specs.Transfer.{registerData}

@@ -1,4 +1,4 @@
--- `Chip::take_slave` meets its contract. Assumes nothing.
+-- The code's two tests are the definition's one. Assumes nothing.
 use borrow.Author.Needs.{needs}
 use borrow.Author.Tests.{eq-eqb, ne-eqb}
 use Rattle.chip.specs.Transfer.{slaveTaken}

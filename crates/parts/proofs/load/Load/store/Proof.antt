@@ -1,4 +1,4 @@
--- `Load::store` meets its contract: after k turns the array is `storedTo k`. Assumes nothing.
+-- After k turns the array is `storedTo k`. Assumes nothing.
 use Prim.Native.Nat.{ℕ, _≤_, _-_}
 use mathlib.Core.Path.{_≡_, refl, ap, _∙_}
 use native.Mathlib.Numerals.{add-one}

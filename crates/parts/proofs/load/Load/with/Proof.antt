@@ -1,4 +1,4 @@
--- `Load::with` meets its contract. Assumes nothing.
+-- The place is the low five bits, and the count stops at 33. Assumes nothing.
 use borrow.Author.Needs.{needs}
 use borrow.Author.Tests.{le-ltb, lt-ltb}
 use Rattle.parts.specs.Load.{loaded}

@@ -1,4 +1,4 @@
--- `Phase::fits` meets its contract: each arm is its clause of `phaseFits`. Assumes nothing.
+-- Each arm is its clause of `phaseFits`. Assumes nothing.
 use borrow.Author.Needs.{needs}
 use Rattle.parts.specs.Phase.{phaseFits}
 use Rattle.parts.proofs.phase.Phase.fits.Statement.{statement}

@@ -1,4 +1,4 @@
--- `Phase::pulls` meets its contract: each arm is its clause of `phasePulls`. Assumes nothing.
+-- Each arm is its clause of `phasePulls`. Assumes nothing.
 use borrow.Author.Needs.{needs}
 use Rattle.parts.specs.Phase.{phasePulls}
 use Rattle.parts.proofs.phase.Phase.pulls.Statement.{statement}

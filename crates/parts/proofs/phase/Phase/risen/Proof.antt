@@ -1,4 +1,4 @@
--- `Phase::risen` meets its contract: each arm is its clause of `risen`. Assumes nothing.
+-- Each arm is its clause of `risen`. Assumes nothing.
 use borrow.Author.Needs.{needs}
 use borrow.Author.Tests.{le-ltb, lt-ltb}
 use Rattle.parts.specs.Phase.{risen}

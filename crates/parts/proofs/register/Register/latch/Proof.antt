@@ -1,4 +1,4 @@
--- `Register::latch` meets its contract: each return is its line of `latchWritten`. Assumes nothing.
+-- Each return is its line of `latchWritten`. Assumes nothing.
 use borrow.Author.Needs.{needs}
 use borrow.Author.Tests.{eq-eqb, ne-eqb}
 use Rattle.parts.specs.Register.{latchWritten}

@@ -1,4 +1,4 @@
--- `Register::lock` meets its contract: each return is its line of `lockWritten`. Assumes nothing.
+-- Each return is its line of `lockWritten`. Assumes nothing.
 use borrow.Author.Needs.{needs}
 use Rattle.parts.specs.Register.{lockWritten}
 use Rattle.parts.proofs.register.Register.lock.Statement.{statement}

@@ -1,4 +1,4 @@
--- `Register::written` meets its contract: each return is its line of `written`. Assumes nothing.
+-- Each return is its line of `written`. Assumes nothing.
 use borrow.Author.Needs.{needs}
 use mathlib.Core.Path.{sym, _∙_}
 use Rattle.parts.specs.Register.{written}
