@@ -1,6 +1,8 @@
 // One event: the edge of a sample and what it does, program-done, power-up, and the refusals before them.
 ghost use mathlib.Core.Path.{_≡_};
-ghost use Rattle.chip.specs.Event.{refusal, eventAnswer, eventArray, reacted, reactedArray, judged, judgedArray, sampled, sampledArray, next, nextArray, settled};
+ghost use Rattle.chip.specs.Chip.{pulls};
+ghost use Rattle.chip.specs.Wire.{lineOf};
+ghost use Rattle.chip.specs.Event.{refusal, eventAnswer, eventArray, reacted, reactedArray, sampled, sampledArray, next, nextArray, settled};
 use crate::chip::Chip;
 use crate::chip::Moved;
 use crate::chip::quietly;
@@ -19,14 +21,15 @@ pub struct Answer {
 }
 
 impl Moved {
-    // The same with these last levels.
-    fn settled(self, scl: bool, line: bool) -> Moved
-        ensures { λ r. ⌜ r ≡ settled self scl line ⌝ }
+    // The same with the sample's clock, and the line that the chip leaves.
+    fn settled(self, sample: Sample) -> Moved
+        ensures { λ r. ⌜ r ≡ settled self (sample .scl) (lineOf (pulls (self .chip)) (sample .sda)) ⌝ }
     {
         let chip = self.chip;
+        let line = line_of(chip.pulls(), sample.sda);
         Moved {
             chip: Chip {
-                scl: scl,
+                scl: sample.scl,
                 line: line,
                 ..chip
             },
@@ -49,27 +52,18 @@ impl Chip {
         }
     }
 
-    // A sample with this line: a busy chip ignores its edge, another reacts to it.
-    fn judge(self, array: &mut [u8], scl: bool, line: bool, pin: bool) -> Moved
-        ensures { λ r. ⌜ (r ≡ judged self (now (array .entry)) scl line pin) × (now (array .exit) ≡ judgedArray self (now (array .entry)) scl line pin) ⌝ }
-    {
-        let busy = self.busy;
-        if busy {
-            return quietly(self);
-        }
-        let edge = edge_of(self.scl, scl, self.line, line);
-        self.react(array, edge, line, pin)
-    }
-
-    // A sample on wires of its own: judged with the pull before it, the line that is kept has the pull after it.
+    // A sample on wires of its own: a busy chip keeps the levels alone; another is judged with the pull before the sample, and the line that is
+    // kept has the pull after it.
     fn sample(self, array: &mut [u8], sample: Sample) -> Moved
         ensures { λ r. ⌜ (r ≡ sampled self (now (array .entry)) sample) × (now (array .exit) ≡ sampledArray self (now (array .entry)) sample) ⌝ }
     {
+        let busy = self.busy;
+        if busy {
+            return quietly(self).settled(sample);
+        }
         let line = line_of(self.pulls(), sample.sda);
-        let moved = self.judge(array, sample.scl, line, sample.pin);
-        let chip = moved.chip;
-        let after = line_of(chip.pulls(), sample.sda);
-        moved.settled(sample.scl, after)
+        let edge = edge_of(self.scl, sample.scl, self.line, line);
+        self.react(array, edge, line, sample.pin).settled(sample)
     }
 
     // One event: the next chip and its note. The line is the one that the next chip keeps.

@@ -1,15 +1,17 @@
--- The line of the judgement has the pull of the chip as it came, the line that is kept that of the chip as it goes. Assumes nothing.
+-- A busy chip stays as it is but for its levels; else the line of the judgement has the pull of the chip as it came. Assumes nothing.
 use borrow.Author.Needs.{needs}
-use Rattle.chip.specs.Event.{sampled}
+use Rattle.chip.specs.Event.{sampled, judged, judgedArray}
 use Rattle.chip.proofs.chip.Chip.sample.Statement.{statement}
 use Rattle.chip.proofs.chip.Chip.sample.Tie as tie
 
 pub sample-spec : {M : Type 1} → statement M
-unfolding sampled
+unfolding sampled judged judgedArray
 sample-spec =
     tie.close
     (tie.spec
     (λ c κs. search needs)
+    (λ c κs. search needs)
+    (λ c. (simp (c .settled .ensures, c .before .quietly .ensures, c .before .before .if1 .taken), simp (c .before .before .if1 .taken)))
     (λ c κs. search needs)
     (λ c κs. search needs)
     (λ c κs. search needs)
@@ -18,16 +20,18 @@ sample-spec =
     (λ c. search needs)
     (λ c. (
       rw (
-        c .settled .ensures,
-        c .before .line-of2 .ensures,
-        c .before .before .pulls2 .ensures,
-        c .before .before .before .before .before .before .judge .ensures .0,
-        c .before .before .before .before .before .before .before .before .line-of .ensures,
-        c .before .before .before .before .before .before .before .before .before .pulls .ensures,
+        c .settled2 .ensures,
+        c .before .before .before .react .ensures .0,
+        c .before .before .before .before .before .edge-of .ensures,
+        c .before .before .before .before .before .before .line-of .ensures,
+        c .before .before .before .before .before .before .before .pulls .ensures,
+        c .before .before .before .before .before .before .before .before .if1 .left,
       ),
       rw (
-        c .before .before .before .before .before .before .judge .ensures .1,
-        c .before .before .before .before .before .before .before .before .line-of .ensures,
-        c .before .before .before .before .before .before .before .before .before .pulls .ensures,
+        c .before .before .before .react .ensures .1,
+        c .before .before .before .before .before .edge-of .ensures,
+        c .before .before .before .before .before .before .line-of .ensures,
+        c .before .before .before .before .before .before .before .pulls .ensures,
+        c .before .before .before .before .before .before .before .before .if1 .left,
       ),
     )))

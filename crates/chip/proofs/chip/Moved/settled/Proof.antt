@@ -1,4 +1,4 @@
--- The two levels are written and nothing else. Assumes nothing.
+-- The line is the one with the pull of the chip as it goes. Assumes nothing.
 use borrow.Author.Needs.{needs}
 use Rattle.chip.proofs.chip.Moved.settled.Statement.{statement}
 use Rattle.chip.proofs.chip.Moved.settled.Tie as tie
@@ -7,4 +7,6 @@ pub settled-spec : {M : Type 1} → statement M
 settled-spec =
     tie.close
     (tie.spec
-    (λ c. search needs))
+    (λ c κs. search needs)
+    (λ c κs. search needs)
+    (λ c. simp (c .before .before .line-of .ensures, c .before .before .before .pulls .ensures)))
