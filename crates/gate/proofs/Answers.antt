@@ -12,9 +12,9 @@ use lib.IntN.{ℤ}
 use lib.ListN.{length, take}
 use types.Run.{OneOf}
 use denote.Enum.Declared.{tagOf}
-use Rattle.gate.specs.Label.{isLabel, all}
-use Rattle.gate.specs.Form.{total}
-use Rattle.gate.specs.Reading.{closedAt, openedAt, stateAt, lengthAt, labelAt, paddingAt, sumAt, isFree, labelFits, limitsFit, goodOf, heldOf, readOf}
+use Rattle.gate.specs.Bytes.{all, total}
+use Rattle.gate.specs.Label.{isLabel}
+use Rattle.gate.specs.Reading.{closedAt, openedAt, stateAt, lengthAt, labelAt, paddingAt, sumAt, isFree, labelFits, limitsFit, goodOf, contentOf, readOf}
 use Rattle.gate.specs.Naming.{ownLength}
 use Rattle.gate.specs.declared.answer.Read.{Read}
 use Rattle.gate.specs.declared.answer.Read.the-variants.{Good, Free, Refused}
@@ -41,9 +41,9 @@ module _ {c o t : ℤ} {n : ℕ} where
   past true x y never e = absurd (never e)
   past false x y never e = (refl, e)
 
-  held-good : (bytes : List ℕ) → heldOf bytes ≡ Good c o t n → (limitsFit (closedAt bytes) (openedAt bytes) ≡ true) × (goodOf bytes ≡ Good c o t n)
-  unfolding heldOf
-  held-good bytes e =
+  content-good : (bytes : List ℕ) → contentOf bytes ≡ Good c o t n → (limitsFit (closedAt bytes) (openedAt bytes) ≡ true) × (goodOf bytes ≡ Good c o t n)
+  unfolding contentOf
+  content-good bytes e =
       let p = past (not (limitsFit (closedAt bytes) (openedAt bytes))) (Refused 14) (goodOf bytes) (refused-good 14) e in
       (not-false _ (p .0), p .1)
 
@@ -56,7 +56,7 @@ module _ {c o t : ℤ} {n : ℕ} where
       let p12 = past (not (eqb (stateAt bytes) 0xa5)) (Refused 12) _ (refused-good 12) (free .1) in
       let p13 = past (not (eqb (sumAt bytes) (total (take 30 bytes)))) (Refused 13) _ (refused-good 13) (p12 .1) in
       let p14 = past (not (labelFits bytes)) (Refused 14) _ (refused-good 14) (p13 .1) in
-      let held = held-good bytes (p14 .1) in (
+      let held = content-good bytes (p14 .1) in (
         record {
           sized = eqb-true (length bytes) 32 (not-false _ (p7 .0));
           used = free .0;
@@ -70,7 +70,7 @@ module _ {c o t : ℤ} {n : ℕ} where
 
 -- bytes that pass are a good record
 pub passed-good : (bytes : List ℕ) → Passed bytes → readOf bytes ≡ goodOf bytes
-unfolding readOf heldOf
+unfolding readOf contentOf
 passed-good bytes p =
     rw (
       eq-eqb (length bytes) 32 (p .sized),

@@ -10,8 +10,7 @@ use lib.ListN.{length}
 use Rattle.gate.specs.Limit.{travelOf}
 use Rattle.gate.specs.Writing.{writeOf, writtenOf}
 use Rattle.gate.specs.Reading.{isFree, readOf}
-use Rattle.gate.specs.Values.{zerosOf, givenOf}
-use Rattle.gate.specs.Outcome.{isGood}
+use Rattle.gate.specs.Answer.{zerosOf, givenOf, isGood}
 use Rattle.gate.specs.declared.answer.Read.{Read}
 use Rattle.gate.specs.declared.answer.Read.the-variants.{Good, Free, Refused}
 use Rattle.gate.proofs.RoundTrip.{written-read}

@@ -9,7 +9,8 @@ use native.Mathlib.Omega.{arith}
 use borrow.Author.Tests.{eqb-true, eq-eqb, leb-true}
 use lib.Dec.{eqb, leb}
 use lib.ListN.{length, getD, replicate}
-use Rattle.gate.specs.Label.{every, labelByte, isLabel, all}
+use Rattle.gate.specs.Bytes.{eachByte, all}
+use Rattle.gate.specs.Label.{labelByte, isLabel}
 use Rattle.gate.proofs.Truth.{and-left, and-right}
 
 -- a space may stand in a label
@@ -32,10 +33,10 @@ pub no-erased-label : (n : ℕ) → isLabel (replicate (suc n) 0xff) ≡ false
 no-erased-label n = rw label-erased
 
 -- one byte that fails is enough, wherever it stands
-pub every-miss : (test : ℕ → Bool) (s : List ℕ) (i : ℕ) → i < length s → test (getD s i 0) ≡ false → every test s ≡ false
-every-miss test [] i h e = absurd (not-suc-le-zero h)
-every-miss test (b ∷ s) zero h e = rw e
-every-miss test (b ∷ s) (suc i) h e = rw (every-miss test s i (le-of-suc-le-suc h) e) (and-false (test b))
+pub each-miss : (test : ℕ → Bool) (s : List ℕ) (i : ℕ) → i < length s → test (getD s i 0) ≡ false → eachByte test s ≡ false
+each-miss test [] i h e = absurd (not-suc-le-zero h)
+each-miss test (b ∷ s) zero h e = rw e
+each-miss test (b ∷ s) (suc i) h e = rw (each-miss test s i (le-of-suc-le-suc h) e) (and-false (test b))
 
 -- so many equal bytes are all that byte
 pub all-replicate : (n b : ℕ) → all b (replicate n b) ≡ true

@@ -12,4 +12,5 @@ pub mod Outcomes
 pub mod Beside
 pub mod Trimming
 pub mod Given
+pub mod Limited
 pub mod Witness

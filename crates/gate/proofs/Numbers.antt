@@ -12,7 +12,8 @@ use lib.Signed.{leZ, ltZ, natAbs-le}
 use mir.Syntax.{w16, w32}
 use mir.Val.{SFits, toZ, ofZ}
 use mir.ValLaws.{toZ-ofZ, toZ-pos}
-use Rattle.gate.specs.Limit.{inRange, same, bits16, signed16, pair, bytes16}
+use Rattle.gate.specs.Bytes.{pair, bytes16}
+use Rattle.gate.specs.Limit.{inRange, same, bits16, signed16}
 use Rattle.gate.proofs.Truth.{both-ways, by-test, and-left}
 
 -- the difference of two naturals, by their order

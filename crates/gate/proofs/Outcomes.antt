@@ -10,10 +10,10 @@ use lib.Dec.{eqb}
 use lib.IntN.{ℤ, pos, negℤ}
 use lib.ListN.{length, take}
 use lib.Signed.{leZ}
+use Rattle.gate.specs.Bytes.{total}
 use Rattle.gate.specs.Limit.{inRange, same, travelOf}
-use Rattle.gate.specs.Form.{total}
-use Rattle.gate.specs.Reading.{closedAt, openedAt, stateAt, sumAt, isFree, labelFits, limitsFit, heldOf, readOf}
-use Rattle.gate.specs.Outcome.{outcomes}
+use Rattle.gate.specs.Reading.{closedAt, openedAt, stateAt, sumAt, isFree, labelFits, limitsFit, contentOf, readOf}
+use Rattle.gate.specs.Answer.{outcomes}
 use Rattle.gate.specs.declared.answer.Read.{Read}
 use Rattle.gate.specs.declared.answer.Read.the-variants.{Good}
 use Rattle.gate.proofs.Truth.{and-left, and-right, cond-by}
@@ -22,7 +22,7 @@ use Rattle.gate.proofs.Answers.{good-passed}
 
 -- every 32 bytes are exactly one of good, free, refused 12, 13 and 14
 pub one-outcome : (bytes : List ℕ) → length bytes ≡ 32 → outcomes (readOf bytes) ≡ 1
-unfolding readOf heldOf
+unfolding readOf contentOf
 one-outcome bytes size =
     let One : Read → Type 0 = λ r. outcomes r ≡ 1 in
     rw (eq-eqb (length bytes) 32 size)

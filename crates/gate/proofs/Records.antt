@@ -9,12 +9,13 @@ use lib.Dec.{eqb}
 use lib.IntN.{ℤ}
 use lib.ListN.{length, take, drop, replicate, length-append, length-replicate}
 use lib.Seq.{take-at, drop-at, getD-at, getD-append-add, drop-drop}
-use Rattle.gate.specs.Limit.{bits16, bytes16, travelOf}
-use Rattle.gate.specs.Form.{total, paddedOf, bodyOf, recordOf}
+use Rattle.gate.specs.Bytes.{total, bytes16}
+use Rattle.gate.specs.Limit.{bits16, travelOf}
+use Rattle.gate.specs.Form.{paddedOf, bodyOf, recordOf}
 use Rattle.gate.specs.Reading.{closedAt, openedAt, labelAt, paddingAt, sumAt, isFree, labelFits, limitsFit, readOf}
 use Rattle.gate.specs.declared.answer.Read.the-variants.{Good}
 use Rattle.gate.proofs.Numbers.{signed-bits, pair-bytes}
-use Rattle.gate.proofs.Labels.{every-miss, all-replicate}
+use Rattle.gate.proofs.Labels.{each-miss, all-replicate}
 use Rattle.gate.proofs.Answers.{Passed, passed-good}
 use Rattle.gate.proofs.Writes.{Writable}
 
@@ -40,7 +41,9 @@ module _ (closed opened : ℤ) (label : List ℕ) (w : Writable closed opened la
   -- its label is the one written
   pub record-label : labelAt (recordOf closed opened label) ≡ label
   unfolding recordOf
-  record-label = rw append-assoc (take-at label _ (length label) refl)
+  record-label =
+      let pad : List ℕ = replicate (24 - length label) 0x20 in
+      rw (append-assoc label pad (bytes16 (total (bodyOf closed opened label)))) (take-at label _ (length label) refl)
 
   -- behind which spaces stand
   record-padding : paddingAt (recordOf closed opened label) ≡ replicate (24 - length label) 0x20
@@ -73,7 +76,7 @@ module _ (closed opened : ℤ) (label : List ℕ) (w : Writable closed opened la
   record-passed =
       record {
         sized = record-size;
-        used = every-miss (λ x. eqb x 0xff) (recordOf closed opened label) 4 (omega (arith, record-size)) refl;
+        used = each-miss (λ x. eqb x 0xff) (recordOf closed opened label) 4 (omega (arith, record-size)) refl;
         state = refl;
         summed = record-sum ∙ ap total (sym record-body);
         labelled = rw (le-leb (length label) 24 (w .short), record-label, w .clean, record-padding) (all-replicate (24 - length label) 0x20);

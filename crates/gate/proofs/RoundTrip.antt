@@ -10,11 +10,11 @@ use lib.Dec.{ltb}
 use lib.IntN.{ℤ}
 use lib.ListN.{length, getD, take, drop, replicate, length-take, length-drop, take-append-drop, drop-of-length-le}
 use lib.Seq.{take-add, drop-drop, drop-cons}
-use Rattle.gate.specs.Limit.{inRange, bits16, signed16, bytes16, pair, travelOf}
-use Rattle.gate.specs.Label.{every}
-use Rattle.gate.specs.Form.{total, headOf, bodyOf, recordOf}
+use Rattle.gate.specs.Bytes.{eachByte, pair, bytes16}
+use Rattle.gate.specs.Limit.{inRange, bits16, signed16, travelOf}
+use Rattle.gate.specs.Form.{limitBytes, paddedOf, bodyOf, sealedOf, recordOf}
 use Rattle.gate.specs.Writing.{writeOf, writtenOf}
-use Rattle.gate.specs.Reading.{closedAt, openedAt, lengthAt, labelAt, paddingAt, limitsFit, readOf}
+use Rattle.gate.specs.Reading.{closedAt, openedAt, stateAt, lengthAt, labelAt, paddingAt, limitsFit, readOf}
 use Rattle.gate.specs.declared.answer.Read.the-variants.{Good}
 use Rattle.gate.proofs.Truth.{and-left, and-right}
 use Rattle.gate.proofs.Numbers.{bits-signed, bytes-pair}
@@ -37,15 +37,13 @@ module _ (buffer : List ℕ) (closed opened : ℤ) (label : List ℕ) (taken : w
       rw (written-good buffer closed opened label taken)
       (record-label closed opened label (accepted buffer closed opened label taken .1))
 
--- the first six of 32 bytes
-six : (s : List ℕ) → 6 ≤ length s → take 6 s ≡ getD s 0 0 ∷ getD s 1 0 ∷ getD s 2 0 ∷ getD s 3 0 ∷ getD s 4 0 ∷ getD s 5 0 ∷ []
-six [] h = absurd (omega arith)
-six (a ∷ []) h = absurd (omega arith)
-six (a ∷ b ∷ []) h = absurd (omega arith)
-six (a ∷ b ∷ c ∷ []) h = absurd (omega arith)
-six (a ∷ b ∷ c ∷ d ∷ []) h = absurd (omega arith)
-six (a ∷ b ∷ c ∷ d ∷ e ∷ []) h = absurd (omega arith)
-six (a ∷ b ∷ c ∷ d ∷ e ∷ f ∷ s) h = refl
+-- the first four of 32 bytes
+four : (s : List ℕ) → 4 ≤ length s → take 4 s ≡ getD s 0 0 ∷ getD s 1 0 ∷ getD s 2 0 ∷ getD s 3 0 ∷ []
+four [] h = absurd (omega arith)
+four (a ∷ []) h = absurd (omega arith)
+four (a ∷ b ∷ []) h = absurd (omega arith)
+four (a ∷ b ∷ c ∷ []) h = absurd (omega arith)
+four (a ∷ b ∷ c ∷ d ∷ s) h = refl
 
 -- the last two of them
 last-two : (s : List ℕ) → length s ≡ 32 → drop 30 s ≡ getD s 30 0 ∷ getD s 31 0 ∷ []
@@ -60,7 +58,7 @@ limit-bytes high low h l = ap bytes16 (bits-signed (pair high low) (omega arith)
 
 module _ (bytes : List ℕ) (p : Passed bytes) where
   -- the label is as long as it says, and its padding fills its places
-  label-size : length (labelAt bytes) ≡ lengthAt bytes
+  pub label-size : length (labelAt bytes) ≡ lengthAt bytes
   label-size =
       let size = p .sized in
       let short = fits-length bytes (p .labelled) in
@@ -73,7 +71,7 @@ module _ (bytes : List ℕ) (p : Passed bytes) where
       simp (length-take, length-drop) (omega arith)
 
   -- a good record can be written
-  passed-writable : Writable (closedAt bytes) (openedAt bytes) (labelAt bytes)
+  pub passed-writable : Writable (closedAt bytes) (openedAt bytes) (labelAt bytes)
   unfolding limitsFit
   passed-writable =
       let inside = and-left (inRange (closedAt bytes) && inRange (openedAt bytes)) _ (p .limited) in
@@ -96,36 +94,49 @@ module _ (bytes : List ℕ) (p : Passed bytes) where
       ∙ sym (take-add n (24 - n) (drop 6 bytes))
       ∙ ap (λ (k : ℕ). take k (drop 6 bytes)) all24
 
+  -- bytes 4–29 are the state byte, the length and the padded label
+  middle : take 26 (drop 4 bytes) ≡ 0xa5 ∷ length (labelAt bytes) ∷ paddedOf (labelAt bytes)
+  middle =
+      let size = p .sized in
+      let from4 : drop 4 bytes ≡ stateAt bytes ∷ lengthAt bytes ∷ drop 6 bytes =
+      drop-cons bytes 4 0 (omega arith) ∙ ap (λ (l : List ℕ). stateAt bytes ∷ l) (drop-cons bytes 5 0 (omega arith)) in
+      ap (take 26) from4
+      ∙ ap (λ (b : ℕ). b ∷ lengthAt bytes ∷ take 24 (drop 6 bytes)) (p .state)
+      ∙ ap (λ (l : List ℕ). 0xa5 ∷ lengthAt bytes ∷ l) (sym places)
+      ∙ ap (λ (n : ℕ). 0xa5 ∷ n ∷ (labelAt bytes ++ replicate (24 - n) 0x20)) (sym label-size)
+
+  -- so any limits in front of them make the body of a record with this label
+  pub passed-body : (closed opened : ℤ) → limitBytes closed opened ++ take 26 (drop 4 bytes) ≡ bodyOf closed opened (labelAt bytes)
+  passed-body closed opened = ap (λ (l : List ℕ). limitBytes closed opened ++ l) middle
+
   module _ (fit : (k : ℕ) → getD bytes k 0 < 0x100) where
-    -- the first six bytes are the head of what was read
-    head : headOf (closedAt bytes) (openedAt bytes) (lengthAt bytes) ≡ take 6 bytes
-    head =
+    -- bytes 0–3 are those of the limits that were read
+    limits : limitBytes (closedAt bytes) (openedAt bytes) ≡ take 4 bytes
+    limits =
         let at : ℕ → ℕ = λ k. getD bytes k 0 in
         let size = p .sized in
-        ap (λ (l : List ℕ). l ++ (bytes16 (bits16 (openedAt bytes)) ++ (0xa5 ∷ [])) ++ (at 5 ∷ [])) (limit-bytes (at 0) (at 1) (fit 0) (fit 1))
-        ∙ ap (λ (l : List ℕ). at 0 ∷ at 1 ∷ (l ++ (0xa5 ∷ []) ++ (at 5 ∷ []))) (limit-bytes (at 2) (at 3) (fit 2) (fit 3))
-        ∙ ap (λ (b : ℕ). at 0 ∷ at 1 ∷ at 2 ∷ at 3 ∷ b ∷ at 5 ∷ []) (sym (p .state))
-        ∙ sym (six bytes (omega arith))
+        ap (λ (l : List ℕ). l ++ bytes16 (bits16 (openedAt bytes))) (limit-bytes (at 0) (at 1) (fit 0) (fit 1))
+        ∙ ap (λ (l : List ℕ). at 0 ∷ at 1 ∷ l) (limit-bytes (at 2) (at 3) (fit 2) (fit 3))
+        ∙ sym (four bytes (omega arith))
 
-    -- the first thirty its body
+    -- the first thirty the body of what was read
     body : bodyOf (closedAt bytes) (openedAt bytes) (labelAt bytes) ≡ take 30 bytes
     body =
-        rw label-size
-        (ap (λ (l : List ℕ). l ++ (labelAt bytes ++ replicate (24 - lengthAt bytes) 0x20)) head
-        ∙ ap (λ (l : List ℕ). take 6 bytes ++ l) places
-        ∙ sym (take-add 6 24 bytes))
+        sym (passed-body (closedAt bytes) (openedAt bytes))
+        ∙ ap (λ (l : List ℕ). l ++ take 26 (drop 4 bytes)) limits
+        ∙ sym (take-add 4 26 bytes)
 
     -- and what is written of it is the record itself
     passed-record : recordOf (closedAt bytes) (openedAt bytes) (labelAt bytes) ≡ bytes
     unfolding recordOf
     passed-record =
-        ap (λ (b : List ℕ). b ++ bytes16 (total b)) body
+        ap sealedOf body
         ∙ ap (λ (s : ℕ). take 30 bytes ++ bytes16 s) (sym (p .summed))
         ∙ ap (λ (l : List ℕ). take 30 bytes ++ l) (bytes-pair (getD bytes 30 0) (getD bytes 31 0) (fit 31) ∙ sym (last-two bytes (p .sized)))
         ∙ take-append-drop 30 bytes
 
 -- numbers that pass the test of a byte are below 100h, wherever one looks
-pub bytes-below : (s : List ℕ) → every (λ b. ltb b 0x100) s ≡ true → (k : ℕ) → getD s k 0 < 0x100
+pub bytes-below : (s : List ℕ) → eachByte (λ b. ltb b 0x100) s ≡ true → (k : ℕ) → getD s k 0 < 0x100
 bytes-below [] e k = omega arith
 bytes-below (b ∷ s) e zero = ltb-true b 0x100 (and-left (ltb b 0x100) _ e)
 bytes-below (b ∷ s) e (suc k) = bytes-below s (and-right (ltb b 0x100) _ e) k

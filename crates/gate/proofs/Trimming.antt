@@ -1,5 +1,5 @@
 -- The name shown of a record: what is cut of its label are spaces, what is left does not end in one, and where nothing is left, or
--- the record is free or refused, the name is the standard label.
+-- the record is free or refused, the name is the standard label; two records with one label have one name.
 -- Assumes nothing.
 use mathlib.Core.Path.{_≡_, refl, sym, ap, _∙_}
 use mathlib.Core.Bool.{true, false, true≢false}
@@ -16,12 +16,12 @@ use lib.Seq.{take-take}
 use Rattle.gate.specs.Label.{trimmedLength}
 use Rattle.gate.specs.Writing.{writeOf, writtenOf}
 use Rattle.gate.specs.Reading.{readOf}
+use Rattle.gate.specs.Answer.{isGood}
 use Rattle.gate.specs.Naming.{ownLength, nameOf}
-use Rattle.gate.specs.Outcome.{isGood}
 use Rattle.gate.specs.declared.answer.Read.{Read}
 use Rattle.gate.specs.declared.answer.Read.the-variants.{Good, Free, Refused}
 use Rattle.gate.proofs.Truth.{by-test}
-use Rattle.gate.proofs.Names.{standard-name, own-name}
+use Rattle.gate.proofs.Names.{standard-name, own-name, good-own}
 use Rattle.gate.proofs.RoundTrip.{written-read, written-label}
 
 module _ (s : List ℕ) where
@@ -80,6 +80,25 @@ not-good-name bytes standard e = standard-name bytes standard (nothing (readOf b
     nothing (Good c o t n) e = absurd (true≢false e)
     nothing Free e = refl
     nothing (Refused k) e = refl
+
+-- two good records with the same label are named the same
+pub same-name : {c o t c′ o′ t′ : ℤ} {n : ℕ} (one two standard : List ℕ) → readOf one ≡ Good c o t n → readOf two ≡ Good c′ o′ t′ n → take n (drop 6 one) ≡ take n (drop 6 two) → nameOf one standard ≡ nameOf two standard
+same-name {n = n} one two standard good good′ same =
+    let m = trimmedLength (take n (drop 6 one)) n in
+    let first : ownLength one (readOf one) ≡ m = good-own one m good refl in
+    let second : ownLength two (readOf two) ≡ m = good-own two m good′ (ap (λ (l : List ℕ). trimmedLength l n) same) in
+    let short : m ≤ n = trimmed-short (take n (drop 6 one)) n in
+    by-test (eqb m 0)
+    (λ e.
+    let none = eqb-true m 0 e in
+    standard-name one standard (first ∙ none) ∙ sym (standard-name two standard (second ∙ none)))
+    (λ e.
+    let some = eqb-false m 0 e in
+    own-name one standard m first some
+    ∙ sym (take-take m n (drop 6 one) short)
+    ∙ ap (take m) same
+    ∙ take-take m n (drop 6 two) short
+    ∙ sym (own-name two standard m second some))
 
 module _ (buffer : List ℕ) (closed opened : ℤ) (label standard : List ℕ) (taken : writeOf buffer closed opened label ≡ 0) where
   own : ownLength (writtenOf buffer closed opened label) (readOf (writtenOf buffer closed opened label)) ≡ trimmedLength label (length label)

@@ -9,28 +9,28 @@ use native.Mathlib.Numerals.{add-one, sub-one}
 use lib.Dec.{eqb}
 use lib.ListN.{length, getD, drop, drop-of-length-le}
 use lib.Seq.{drop-cons}
-use Rattle.gate.specs.Label.{every, trimmedLength}
-use Rattle.gate.specs.Form.{total}
+use Rattle.gate.specs.Bytes.{eachByte, total}
+use Rattle.gate.specs.Label.{trimmedLength}
 
 module _ (test : ℕ → Bool) (s : List ℕ) (i : ℕ) where
-  -- the bytes from place i on pass where the byte at i and those behind it pass
-  pub every-step : i < length s → every test (drop i s) ≡ test (getD s i 0) && every test (drop (i + 1) s)
-  every-step h = rw (add-one, drop-cons s i 0)
+  -- the bytes from byte i on pass where the byte at i and those behind it pass
+  pub each-step : i < length s → eachByte test (drop i s) ≡ test (getD s i 0) && eachByte test (drop (i + 1) s)
+  each-step h = rw (add-one, drop-cons s i 0)
 
   -- one byte that fails is enough
-  pub every-stop : i < length s → test (getD s i 0) ≡ false → every test (drop i s) ≡ false
-  every-stop h e = rw (every-step, e)
+  pub each-stop : i < length s → test (getD s i 0) ≡ false → eachByte test (drop i s) ≡ false
+  each-stop h e = rw (each-step, e)
 
   -- a byte that passes leaves the rest to be asked
-  pub every-more : i < length s → test (getD s i 0) ≡ true → every test (drop i s) ≡ every test (drop (i + 1) s)
-  every-more h e = rw (every-step, e)
+  pub each-more : i < length s → test (getD s i 0) ≡ true → eachByte test (drop i s) ≡ eachByte test (drop (i + 1) s)
+  each-more h e = rw (each-step, e)
 
   -- past the end nothing is left to fail
-  pub every-end : length s ≤ i → every test (drop i s) ≡ true
-  every-end h = rw (drop-of-length-le s)
+  pub each-end : length s ≤ i → eachByte test (drop i s) ≡ true
+  each-end h = rw (drop-of-length-le s)
 
 module _ (s : List ℕ) (i : ℕ) where
-  -- the sum from place i on is the byte there and the sum behind it
+  -- the sum from byte i on is the byte there and the sum behind it
   pub total-step : i < length s → total (drop i s) ≡ getD s i 0 + total (drop (i + 1) s)
   total-step h = rw (add-one, drop-cons s i 0)
 

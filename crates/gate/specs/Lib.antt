@@ -1,8 +1,9 @@
+pub mod Bytes
 pub mod Limit
 pub mod Label
 pub mod Form
 pub mod Writing
 pub mod Reading
-pub mod Values
+pub mod Answer
 pub mod Naming
-pub mod Outcome
+pub mod Limiting

@@ -1,17 +1,15 @@
--- The two travel limits of a gate ("Gate records").
+-- The two travel limits of a gate ("Refusals and what they return", "Gate records").
 --
 -- | Name | Meaning |
 -- |---|---|
 -- | `inRange` | a limit lies in -30,000..30,000 |
 -- | `same` | two limits are equal |
+-- | `limitsRefusal` | the first refusal of two limits that applies, or 0 |
 -- | `bits16` | the sixteen bits of a limit |
 -- | `signed16` | the limit that sixteen bits stand for |
--- | `pair` | sixteen bits from two bytes, high byte first |
--- | `bytes16` | sixteen bits as two bytes, high byte first |
 -- | `travelOf` | the travel between two limits |
-use Prim.Native.Nat.{ℕ, suc, _+_, _-_, _*_, _/_, _%_}
-use mathlib.Core.Bool.{Bool, false, cond, _&&_}
-use mathlib.Core.List.{List, [], _∷_}
+use Prim.Native.Nat.{ℕ, suc, _-_}
+use mathlib.Core.Bool.{Bool, false, cond, not, _&&_}
 use lib.Dec.{eqb, ltb}
 use lib.IntN.{ℤ, pos, negsuc, negℤ, _-ℤ_}
 use lib.Signed.{leZ}
@@ -27,6 +25,10 @@ same (pos a) (negsuc b) = false
 same (negsuc a) (pos b) = false
 same (negsuc a) (negsuc b) = eqb a b
 
+-- "Refusals and what they return": 10, then 11
+abbrev pub limitsRefusal : ℤ → ℤ → ℕ
+limitsRefusal closed opened = cond (not (inRange closed && inRange opened)) 10 (cond (same closed opened) 11 0)
+
 -- "Gate records": both signed, two's complement
 unfoldable pub bits16 : ℤ → ℕ
 bits16 (pos n) = n
@@ -35,14 +37,6 @@ bits16 (negsuc n) = 0x10000 - suc n
 -- "Gate records": the same, read back
 unfoldable pub signed16 : ℕ → ℤ
 signed16 u = cond (ltb u 0x8000) (pos u) (negsuc (0x10000 - suc u))
-
--- "Gate records": high byte first
-abbrev pub pair : ℕ → ℕ → ℕ
-pair high low = high * 0x100 + low
-
--- "Gate records": high byte first
-abbrev pub bytes16 : ℕ → List ℕ
-bytes16 u = u / 0x100 ∷ u % 0x100 ∷ []
 
 -- "Gate records": travel is open minus closed
 abbrev pub travelOf : ℤ → ℤ → ℤ

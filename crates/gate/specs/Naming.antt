@@ -1,10 +1,10 @@
--- The name shown: which of the two lent slices it lies in, where, and its bytes ("Gate records").
+-- The name shown: which of the two lent slices it lies in, from where, how many bytes, and the bytes ("Gate records").
 --
 -- | Name | Meaning |
 -- |---|---|
 -- | `ownLength` | how many bytes of the record's label are shown, 0 where none is |
--- | `placeOf` | where the name lies |
--- | `partOf` | the bytes at such a place |
+-- | `spanOf` | where the name lies: which slice, from where, how many bytes |
+-- | `partOf` | the bytes of such a span |
 -- | `nameOf` | the name shown |
 use Prim.Native.Nat.{ℕ}
 use mathlib.Core.Bool.{true, false, cond}
@@ -23,9 +23,10 @@ ownLength bytes (Good c o t n) = trimmedLength (take n (drop 6 bytes)) n
 ownLength bytes Free = 0
 ownLength bytes (Refused k) = 0
 
--- "Gate records": that label, or the standard label, whole, where there is none or it is blank
-unfoldable pub placeOf : List ℕ → List ℕ → Shown
-placeOf bytes standard =
+-- "Gate records": that label, or the standard label, whole, where there is none or it is blank (our reading: blank is empty or 20h alone,
+-- and the standard label is never checked, docs/DECISIONS.md)
+unfoldable pub spanOf : List ℕ → List ℕ → Shown
+spanOf bytes standard =
     cond (eqb (ownLength bytes (readOf bytes)) 0)
     (record { own = false; start = 0; len = length standard })
     (record { own = true; start = 6; len = ownLength bytes (readOf bytes) })
@@ -36,4 +37,4 @@ partOf shown bytes standard = take (shown .len) (drop (shown .start) (cond (show
 
 -- "Gate records": the name shown
 abbrev pub nameOf : List ℕ → List ℕ → List ℕ
-nameOf bytes standard = partOf (placeOf bytes standard) bytes standard
+nameOf bytes standard = partOf (spanOf bytes standard) bytes standard

@@ -9,7 +9,7 @@
 -- | `labelFits` | length, label and padding are as the layout has them |
 -- | `limitsFit` | two limits are in range and not equal |
 -- | `goodOf` | what a good record gives |
--- | `heldOf` | what a record gives whose label is good |
+-- | `contentOf` | what a record gives whose label fits |
 -- | `readOf` | what reading answers |
 use Prim.Native.Nat.{ℕ, _+_, _-_}
 use mathlib.Core.Bool.{Bool, cond, not, _&&_}
@@ -17,9 +17,9 @@ use mathlib.Core.List.{List}
 use lib.Dec.{eqb, leb}
 use lib.IntN.{ℤ}
 use lib.ListN.{length, getD, take, drop}
-use Rattle.gate.specs.Limit.{inRange, same, signed16, pair, travelOf}
-use Rattle.gate.specs.Label.{isLabel, all}
-use Rattle.gate.specs.Form.{total}
+use Rattle.gate.specs.Bytes.{all, total, pair}
+use Rattle.gate.specs.Limit.{inRange, same, signed16, travelOf}
+use Rattle.gate.specs.Label.{isLabel}
 use Rattle.gate.specs.declared.answer.Read.{Read}
 use Rattle.gate.specs.declared.answer.Read.the-variants.{Good, Free, Refused}
 
@@ -55,7 +55,8 @@ sumAt bytes = pair (getD bytes 30 0) (getD bytes 31 0)
 unfoldable pub isFree : List ℕ → Bool
 isFree bytes = all 0xff bytes
 
--- "Refusals and what they return", 14: length, label, padding
+-- "Refusals and what they return", 14: length, label, padding (our reading: the first `lengthAt` bytes are the label, all others of the
+-- twenty-four the padding, docs/DECISIONS.md)
 unfoldable pub labelFits : List ℕ → Bool
 labelFits bytes = leb (lengthAt bytes) 24 && (isLabel (labelAt bytes) && all 0x20 (paddingAt bytes))
 
@@ -63,13 +64,13 @@ labelFits bytes = leb (lengthAt bytes) 24 && (isLabel (labelAt bytes) && all 0x2
 unfoldable pub limitsFit : ℤ → ℤ → Bool
 limitsFit closed opened = inRange closed && inRange opened && not (same closed opened)
 
--- "Gate records": reading a good record gives both limits, the travel and the label length
+-- "Gate records": reading a good record gives both limits, the travel and the label length (our reading: as stored, docs/DECISIONS.md)
 abbrev pub goodOf : List ℕ → Read
 goodOf bytes = Good (closedAt bytes) (openedAt bytes) (travelOf (closedAt bytes) (openedAt bytes)) (lengthAt bytes)
 
 -- "Refusals and what they return", 14: the limits, the last that is checked
-unfoldable pub heldOf : List ℕ → Read
-heldOf bytes = cond (not (limitsFit (closedAt bytes) (openedAt bytes))) (Refused 14) (goodOf bytes)
+unfoldable pub contentOf : List ℕ → Read
+contentOf bytes = cond (not (limitsFit (closedAt bytes) (openedAt bytes))) (Refused 14) (goodOf bytes)
 
 -- "Refusals and what they return": reading checks 7, then free, then 12, 13, 14
 unfoldable pub readOf : List ℕ → Read
@@ -79,4 +80,4 @@ readOf bytes =
     (cond (not (eqb (stateAt bytes) 0xa5)) (Refused 12)
     (cond (not (eqb (sumAt bytes) (total (take 30 bytes)))) (Refused 13)
     (cond (not (labelFits bytes)) (Refused 14)
-    (heldOf bytes)))))
+    (contentOf bytes)))))

@@ -5,12 +5,12 @@
 -- | `writeOf` | the number that writing answers: the first refusal that applies, or 0 |
 -- | `writtenOf` | what the buffer holds afterwards: the record, or after a refusal what it held |
 use Prim.Native.Nat.{ℕ}
-use mathlib.Core.Bool.{cond, not, _&&_}
+use mathlib.Core.Bool.{cond, not}
 use mathlib.Core.List.{List}
 use lib.Dec.{eqb, ltb}
 use lib.IntN.{ℤ}
 use lib.ListN.{length}
-use Rattle.gate.specs.Limit.{inRange, same}
+use Rattle.gate.specs.Limit.{limitsRefusal}
 use Rattle.gate.specs.Label.{isLabel}
 use Rattle.gate.specs.Form.{recordOf}
 
@@ -20,8 +20,7 @@ writeOf buffer closed opened label =
     cond (not (eqb (length buffer) 32)) 7
     (cond (ltb 24 (length label)) 8
     (cond (not (isLabel label)) 9
-    (cond (not (inRange closed && inRange opened)) 10
-    (cond (same closed opened) 11 0))))
+    (limitsRefusal closed opened)))
 
 -- "Refusals and what they return": no buffer is written
 unfoldable pub writtenOf : List ℕ → ℤ → ℤ → List ℕ → List ℕ

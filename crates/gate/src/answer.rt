@@ -1,6 +1,6 @@
-// What the operations on a record answer.
+// What the operations on a record answer: an enum for reading, its values for a caller that cannot take an enum, and a span.
 ghost use mathlib.Core.Path.{_≡_};
-ghost use Rattle.gate.specs.Values.{givenOf};
+ghost use Rattle.gate.specs.Answer.{zerosOf, givenOf};
 
 // What reading a record finds.
 pub enum Read {
@@ -28,6 +28,19 @@ pub struct Given {
     pub length: usize,
 }
 
+// A number, with zeros for what a good record holds.
+fn zeros(number: u8) -> Given
+    ensures { λ r. ⌜ r ≡ zerosOf number ⌝ }
+{
+    Given {
+        number,
+        closed: 0,
+        opened: 0,
+        travel: 0,
+        length: 0,
+    }
+}
+
 impl Read {
     // The values of the answer.
     pub fn given(self) -> Given
@@ -46,27 +59,18 @@ impl Read {
                 travel,
                 length,
             },
-            Read::Free => Given {
-                number: 0,
-                closed: 0,
-                opened: 0,
-                travel: 0,
-                length: 0,
-            },
-            Read::Refused { number } => Given {
-                number,
-                closed: 0,
-                opened: 0,
-                travel: 0,
-                length: 0,
-            },
+            Read::Free => zeros(0),
+            Read::Refused { number } => zeros(number),
         }
     }
 }
 
-// Where the name shown lies: in the record where `own` is true, else in the standard label, from `start` on, `len` bytes.
+// The span of the name shown.
 pub struct Shown {
+    // True in the record, false in the standard label.
     pub own: bool,
+    // The first byte.
     pub start: usize,
+    // How many bytes.
     pub len: usize,
 }

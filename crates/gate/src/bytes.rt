@@ -1,10 +1,9 @@
-// Bytes in general: whether all are equal, their sum, and filling and copying.
+// Bytes in general: whether all are equal, their sum, filling and copying, and sixteen bits as two of them.
 ghost use mathlib.Core.Path.{_≡_};
 ghost use mathlib.Core.List.{_++_};
-ghost use Prim.Native.Nat.{_+_, _≤_};
-ghost use lib.ListN.{length, take, drop, replicate};
-ghost use Rattle.gate.specs.Label.{all};
-ghost use Rattle.gate.specs.Form.{total};
+ghost use Prim.Native.Nat.{_+_, _≤_, _<_, _/_, _%_};
+ghost use lib.ListN.{length, take, drop, set, replicate};
+ghost use Rattle.gate.specs.Bytes.{all, total};
 
 // Whether each byte of s is b.
 pub(crate) fn all_are(s: &[u8], b: u8) -> bool
@@ -45,7 +44,7 @@ pub(crate) fn fill(d: &mut [u8], b: u8)
     }
 }
 
-// Copies s into d from place at on.
+// Copies s into d from byte at on.
 pub(crate) fn copy_at(d: &mut [u8], at: usize, s: &[u8])
     requires { ⌜ at + length (now s) ≤ length (now d) ⌝ }
     ensures { λ _. ⌜ now (d .exit) ≡ take at (now (d .entry)) ++ now (s .entry) ++ drop (at + length (now (s .entry))) (now (d .entry)) ⌝ }
@@ -55,4 +54,13 @@ pub(crate) fn copy_at(d: &mut [u8], at: usize, s: &[u8])
         d[at + i] = s[i];
         i += 1;
     }
+}
+
+// Puts sixteen bits into two bytes from byte at on, high byte first.
+pub(crate) fn put_pair(d: &mut [u8], at: usize, bits: u16)
+    requires { ⌜ at + 1 < length (now d) ⌝ }
+    ensures { λ _. ⌜ now (d .exit) ≡ set (set (now (d .entry)) at (bits / 256)) (at + 1) (bits % 256) ⌝ }
+{
+    d[at] = (bits / 256) as u8;
+    d[at + 1] = (bits % 256) as u8;
 }

@@ -3,7 +3,7 @@ ghost use mathlib.Core.Path.{_≡_};
 ghost use Prim.Native.Nat.{_≤_};
 ghost use lib.ListN.{length, take, drop};
 ghost use Rattle.gate.specs.Label.{trimmedLength};
-ghost use Rattle.gate.specs.Naming.{placeOf, nameOf};
+ghost use Rattle.gate.specs.Naming.{spanOf, nameOf};
 use crate::answer::Read;
 use crate::answer::Shown;
 use crate::label::trimmed;
@@ -18,9 +18,9 @@ fn kept(bytes: &[u8], n: usize) -> usize
     trimmed(&bytes[6..end])
 }
 
-// Where the name shown lies, for a caller that cannot take a slice back.
-pub fn shown_place(bytes: &[u8], standard: &[u8]) -> Shown
-    ensures { λ r. ⌜ r ≡ placeOf (now (bytes .entry)) (now (standard .entry)) ⌝ }
+// Where the name shown lies (which slice, from where, how many bytes), for a caller that cannot take a slice back.
+pub fn shown_span(bytes: &[u8], standard: &[u8]) -> Shown
+    ensures { λ r. ⌜ r ≡ spanOf (now (bytes .entry)) (now (standard .entry)) ⌝ }
 {
     let Read::Good { length, .. } = read(bytes) else {
         return Shown {

@@ -2,16 +2,18 @@
 ghost use mathlib.Core.Path.{_≡_};
 ghost use lib.Dec.{eqb};
 ghost use lib.ListN.{length, take};
-ghost use Rattle.gate.specs.Form.{total};
-ghost use Rattle.gate.specs.Reading.{sumAt, labelFits, limitsFit, heldOf, readOf};
+ghost use Rattle.gate.specs.Bytes.{total};
+ghost use Rattle.gate.specs.Reading.{sumAt, labelFits, limitsFit, contentOf, readOf};
 use crate::answer::Read;
 use crate::bytes::all_are;
 use crate::bytes::sum;
+use crate::form::LABEL_BYTES;
+use crate::form::RECORD_BYTES;
 use crate::label::is_label;
-use crate::limits::equal;
-use crate::limits::in_range;
-use crate::limits::limit_of;
-use crate::limits::travel_of;
+use crate::limit::equal;
+use crate::limit::in_range;
+use crate::limit::limit_of;
+use crate::limit::travel_of;
 
 // Whether the stored sum is that of bytes 0-29.
 fn sum_right(bytes: &[u8]) -> bool
@@ -28,7 +30,7 @@ fn label_fits(bytes: &[u8]) -> bool
     ensures { λ r. ⌜ r ≡ labelFits (now (bytes .entry)) ⌝ }
 {
     let n = bytes[5] as usize;
-    if 24 < n {
+    if LABEL_BYTES < n {
         return false;
     }
     let end = 6 + n;
@@ -47,10 +49,10 @@ fn limits_fit(closed: i16, opened: i16) -> bool
     in_range(from) & in_range(to) & !equal(from, to)
 }
 
-// What a record with a good label holds, or the refusal of its limits.
-fn held(bytes: &[u8]) -> Read
+// What a record whose label fits gives, or the refusal of its limits.
+fn content(bytes: &[u8]) -> Read
     requires { ⌜ length (now bytes) ≡ 32 ⌝ }
-    ensures { λ r. ⌜ r ≡ heldOf (now (bytes .entry)) ⌝ }
+    ensures { λ r. ⌜ r ≡ contentOf (now (bytes .entry)) ⌝ }
 {
     let closed = limit_of(bytes[0], bytes[1]);
     let opened = limit_of(bytes[2], bytes[3]);
@@ -71,7 +73,7 @@ fn held(bytes: &[u8]) -> Read
 pub fn read(bytes: &[u8]) -> Read
     ensures { λ r. ⌜ r ≡ readOf (now (bytes .entry)) ⌝ }
 {
-    if bytes.len() != 32 {
+    if bytes.len() != RECORD_BYTES {
         return Read::Refused { number: 7 };
     }
     if all_are(bytes, 0xff) {
@@ -86,5 +88,5 @@ pub fn read(bytes: &[u8]) -> Read
     if !label_fits(bytes) {
         return Read::Refused { number: 14 };
     }
-    held(bytes)
+    content(bytes)
 }

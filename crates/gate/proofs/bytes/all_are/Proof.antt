@@ -1,12 +1,12 @@
--- `gate::bytes::all_are` meets its contract. Its loop has passed only bytes that are b, so what is asked of all is asked of those left.
+-- `gate::bytes::all_are`: its loop has passed only bytes that are b, so what is asked of all is asked of those left.
 -- Assumes nothing.
 use Prim.Native.Nat.{_≤_, _-_}
 use mathlib.Core.Path.{_≡_, refl, sym, _∙_}
 use native.Mathlib.Omega.{arith}
 use borrow.Author.Tests.{eq-eqb, ne-eqb}
 use lib.ListN.{length, drop}
-use Rattle.gate.specs.Label.{all}
-use Rattle.gate.proofs.Walks.{every-stop, every-more, every-end}
+use Rattle.gate.specs.Bytes.{all}
+use Rattle.gate.proofs.Walks.{each-stop, each-more, each-end}
 use Rattle.gate.proofs.bytes.all_are.Statement.{statement}
 use Rattle.gate.proofs.bytes.all_are.Tie as tie
 
@@ -19,17 +19,17 @@ abbrev μ-loop : tie.MeasureT-loop
 returns : tie.Need-returns Inv-loop μ-loop
 returns c =
     let l = c .before .before .before in
-    sym (l .loop .inv .1 ∙ every-stop _ _ _ (c .before .before .loop-test .taken) (ne-eqb _ _ (c .if1 .taken)))
+    sym (l .loop .inv .1 ∙ each-stop _ _ _ (c .before .before .loop-test .taken) (ne-eqb _ _ (c .if1 .taken)))
 
 loop-again : tie.Need-loop-again Inv-loop μ-loop
 loop-again c =
     let l = c .before .before .before in (
       omega arith,
-      l .loop .inv .1 ∙ every-more _ _ _ (c .before .before .loop-test .taken) (eq-eqb _ _ (c .if1 .left)),
+      l .loop .inv .1 ∙ each-more _ _ _ (c .before .before .loop-test .taken) (eq-eqb _ _ (c .if1 .left)),
     )
 
 returns-2 : tie.Need-returns-2 Inv-loop μ-loop
-returns-2 c = sym (c .before .loop .inv .1 ∙ every-end _ _ _ (c .loop-test .left))
+returns-2 c = sym (c .before .loop .inv .1 ∙ each-end _ _ _ (c .loop-test .left))
 
 pub all-are-spec : {M : Type 1} → statement M
 all-are-spec =

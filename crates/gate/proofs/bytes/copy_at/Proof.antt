@@ -1,4 +1,4 @@
--- `gate::bytes::copy_at` meets its contract. Its loop has put the first bytes of s in place; one turn puts one more.
+-- `gate::bytes::copy_at`: its loop has put the first bytes of s in place; one turn puts one more.
 -- Assumes nothing.
 use Prim.Native.Nat.{_≤_, _<_, _-_, _+_}
 use mathlib.Core.Path.{_≡_, refl, _∙_}

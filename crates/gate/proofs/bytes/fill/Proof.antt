@@ -1,4 +1,4 @@
--- `gate::bytes::fill` meets its contract. Its loop has stored b at each place passed.
+-- `gate::bytes::fill`: its loop has stored b in each byte passed.
 -- Assumes nothing.
 use Prim.Native.Nat.{_≤_, _<_, _-_}
 use mathlib.Core.Path.{_≡_, refl, _∙_}

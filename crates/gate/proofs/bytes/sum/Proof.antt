@@ -1,10 +1,10 @@
--- `gate::bytes::sum` meets its contract. What its loop has summed, with the sum of the bytes left, is the whole sum; it is at most 255 for each byte passed.
+-- `gate::bytes::sum`: what its loop has summed, with the sum of the bytes left, is the whole sum; it is at most 255 for each byte passed.
 -- Assumes nothing.
 use Prim.Native.Nat.{_≤_, _-_, _+_, _*_}
 use mathlib.Core.Path.{_≡_}
 use native.Mathlib.Omega.{arith}
 use lib.ListN.{length, drop}
-use Rattle.gate.specs.Form.{total}
+use Rattle.gate.specs.Bytes.{total}
 use Rattle.gate.proofs.Walks.{total-step, total-end}
 use Rattle.gate.proofs.bytes.sum.Statement.{statement}
 use Rattle.gate.proofs.bytes.sum.Tie as tie

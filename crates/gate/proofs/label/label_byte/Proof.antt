@@ -1,4 +1,4 @@
--- `gate::label::label_byte` meets its contract. Both tests are the definition's own.
+-- `gate::label::label_byte`: both tests are the definition's own.
 -- Assumes nothing.
 use mathlib.Core.Path.{refl}
 use Rattle.gate.specs.Label.{labelByte}

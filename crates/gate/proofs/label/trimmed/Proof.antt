@@ -1,4 +1,4 @@
--- `gate::label::trimmed` meets its contract. Its loop has passed only spaces, so the length without them is that of the bytes left.
+-- `gate::label::trimmed`: its loop has passed only spaces, so the length without them is that of the bytes left.
 -- Assumes nothing.
 use Prim.Native.Nat.{_≤_, _-_}
 use mathlib.Core.Path.{_≡_, refl, sym, _∙_}

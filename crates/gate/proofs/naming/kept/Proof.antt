@@ -1,4 +1,4 @@
--- `gate::naming::kept` meets its contract. The label is the part from byte 6 on, and the rule for the part gives how many bytes it has.
+-- `gate::naming::kept`: the label is the part from byte 6 on, and the rule for the part gives how many bytes it has.
 -- Assumes nothing.
 use mathlib.Core.Path.{_≡_, _∙_}
 use Prim.Native.Nat.{_+_, _-_}

@@ -1,10 +1,9 @@
--- `gate::naming::shown_name` meets its contract. What is not good shows nothing of the record, and a good record what is left of its label.
+-- `gate::naming::shown_name`: what is not good shows nothing of the record, and a good record what is left of its label.
 -- Assumes nothing.
-use mathlib.Core.Path.{_≡_, sym, _∙_}
-use Prim.Native.Nat.{_≤_}
-use lib.ListN.{length}
+use mathlib.Core.Path.{_≡_, sym, ap, _∙_}
+use Prim.Native.Nat.{ℕ, _+_, _-_, _≤_}
+use lib.ListN.{length, take, drop}
 use native.Mathlib.Omega.{arith}
-use native.Mathlib.Nat.{add-sub-cancel-left}
 use borrow.Author.Needs.{needs}
 use Rattle.gate.specs.Reading.{readOf}
 use Rattle.gate.specs.Naming.{ownLength}
@@ -36,14 +35,16 @@ returns-2 c =
     sym (standard-name (a .bytes .now) (a .standard .now) (own (c .before) ∙ c .if1 .taken))
 
 part-result-end : tie.Need-part-result-end
-part-result-end c = omega (arith, sized (c .before .before) .0, c .before .kept .ensures .1)
+part-result-end c = omega (arith, sized (c .before .before) .0, sized (c .before .before) .1, c .before .kept .ensures .1)
 
 returns-3 : tie.Need-returns-3
 returns-3 c =
     let k = c .before .before in
     let a = k .before .before .before .before .before .before .before .args in
-    rw add-sub-cancel-left
-    (sym (own-name (a .bytes .now) (a .standard .now) (k .kept .result) (own k) (c .before .if1 .left)))
+    let n = k .kept .result in
+    let many : 6 + n - 6 ≡ n = omega arith in
+    ap (λ (m : ℕ). take m (drop 6 (a .bytes .now))) many
+    ∙ sym (own-name (a .bytes .now) (a .standard .now) n (own k) (c .before .if1 .left))
 
 pub shown-name-spec : {M : Type 1} → statement M
 shown-name-spec =

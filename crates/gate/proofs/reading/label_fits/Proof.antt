@@ -1,4 +1,4 @@
--- `gate::reading::label_fits` meets its contract. Each way out has the tests that led there, and the parts that were asked are the definition's.
+-- `gate::reading::label_fits`: each way out has the tests that led there, and the parts that were asked are the definition's.
 -- Assumes nothing.
 use mathlib.Core.Path.{_≡_, sym, _∙_}
 use Prim.Native.Nat.{_+_, _-_}

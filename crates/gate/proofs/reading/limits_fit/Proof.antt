@@ -1,4 +1,4 @@
--- `gate::reading::limits_fit` meets its contract. Its three tests are the definition's own, of the limits widened as they are.
+-- `gate::reading::limits_fit`: its three tests are the definition's own, of the limits widened as they are.
 -- Assumes nothing.
 use borrow.Author.Needs.{needs}
 use Rattle.gate.specs.Reading.{limitsFit}

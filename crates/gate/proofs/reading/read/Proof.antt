@@ -1,4 +1,4 @@
--- `gate::reading::read` meets its contract. At each way out the tests that led there say which case of the definition holds.
+-- `gate::reading::read`: at each way out the tests that led there say which case of the definition holds.
 -- Assumes nothing.
 use mathlib.Core.Path.{_≡_, sym, _∙_}
 use mathlib.Core.Bool.{cond, not}
@@ -8,8 +8,8 @@ use borrow.Author.Needs.{needs}
 use borrow.Author.Tests.{eq-eqb, ne-eqb, not-true, not-false}
 use lib.Dec.{eqb}
 use lib.ListN.{take}
-use Rattle.gate.specs.Form.{total}
-use Rattle.gate.specs.Reading.{sumAt, isFree, labelFits, heldOf, readOf}
+use Rattle.gate.specs.Bytes.{total}
+use Rattle.gate.specs.Reading.{sumAt, isFree, labelFits, contentOf, readOf}
 use Rattle.gate.specs.declared.answer.Read.the-variants.{Refused}
 use Rattle.gate.proofs.reading.read.Statement.{statement}
 use Rattle.gate.proofs.reading.read.Tie as tie
@@ -19,7 +19,7 @@ abbrev lent : tie.Else3 → List ℕ
 lent c = c .before .before .before .before .before .before .args .bytes .now
 
 -- past the state byte what is left to ask is the sum, the label and the limits
-past-state : (c : tie.Else3) → readOf (lent c) ≡ cond (not (eqb (sumAt (lent c)) (total (take 30 (lent c))))) (Refused 13) (cond (not (labelFits (lent c))) (Refused 14) (heldOf (lent c)))
+past-state : (c : tie.Else3) → readOf (lent c) ≡ cond (not (eqb (sumAt (lent c)) (total (take 30 (lent c))))) (Refused 13) (cond (not (labelFits (lent c))) (Refused 14) (contentOf (lent c)))
 unfolding readOf isFree
 past-state c =
     let two = c .before .before in
@@ -30,7 +30,7 @@ past-state c =
     )
 
 -- past the sum the label and the limits
-past-sum : (c : tie.Else4) → readOf (lent (c .before .before)) ≡ cond (not (labelFits (lent (c .before .before)))) (Refused 14) (heldOf (lent (c .before .before)))
+past-sum : (c : tie.Else4) → readOf (lent (c .before .before)) ≡ cond (not (labelFits (lent (c .before .before)))) (Refused 14) (contentOf (lent (c .before .before)))
 past-sum c = past-state (c .before .before) ∙ rw (sym (c .before .sum-right .ensures) ∙ not-false _ (c .if4 .left))
 
 returns : tie.Need-returns
@@ -60,7 +60,7 @@ returns-5 c = sym (past-sum (c .before .before) ∙ rw (sym (c .before .label-fi
 returns-6 : tie.Need-returns-6
 returns-6 c =
     let five = c .before in
-    c .held .ensures
+    c .content .ensures
     ∙ sym (past-sum (five .before .before) ∙ rw (sym (five .before .label-fits .ensures) ∙ not-false _ (five .if5 .left)))
 
 pub read-spec : {M : Type 1} → statement M

@@ -1,4 +1,4 @@
--- `gate::reading::sum_right` meets its contract. The sum of the first thirty bytes is compared with the two bytes stored.
+-- `gate::reading::sum_right`: the sum of the first thirty bytes is compared with the two bytes stored.
 -- Assumes nothing.
 use native.Mathlib.Omega.{arith}
 use borrow.Author.Needs.{needs}

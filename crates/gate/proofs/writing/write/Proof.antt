@@ -1,4 +1,4 @@
--- `gate::writing::write` meets its contract. A refusal leaves the buffer, and an answer of 0 says what the record that is put there needs.
+-- `gate::writing::write`: a refusal leaves the buffer, and an answer of 0 says what the record that is put there needs.
 -- Assumes nothing.
 use mathlib.Core.Path.{_≡_, sym, _∙_}
 use borrow.Author.Needs.{needs}

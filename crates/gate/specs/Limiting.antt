@@ -1,0 +1,38 @@
+-- New limits into a good record: the refusals in their order, and what the buffer holds afterwards (house: the paper has no such
+-- operation; its numbers and its layout hold).
+--
+-- | Name | Meaning |
+-- |---|---|
+-- | `limitsOn` | the number that the operation answers, by what reading finds |
+-- | `limitsOf` | the number, by the bytes: the first refusal that applies, or 0 |
+-- | `relimited` | a record with other limits: bytes 4–29 as they are, and the sum anew |
+-- | `limitedOf` | what the buffer holds afterwards: that record, or after a refusal what it held |
+use Prim.Native.Nat.{ℕ}
+use mathlib.Core.Bool.{cond}
+use mathlib.Core.List.{List, _++_}
+use lib.Dec.{eqb}
+use lib.IntN.{ℤ}
+use lib.ListN.{take, drop}
+use Rattle.gate.specs.Limit.{limitsRefusal}
+use Rattle.gate.specs.Form.{limitBytes, sealedOf}
+use Rattle.gate.specs.Reading.{readOf}
+use Rattle.gate.specs.declared.answer.Read.{Read}
+use Rattle.gate.specs.declared.answer.Read.the-variants.{Good, Free, Refused}
+
+-- "Refusals and what they return": what reading refuses, then 10, 11 (house: a free record is 12 here, since it is no gate)
+abbrev pub limitsOn : Read → ℤ → ℤ → ℕ
+limitsOn (Good c o t n) closed opened = limitsRefusal closed opened
+limitsOn Free closed opened = 12
+limitsOn (Refused number) closed opened = number
+
+-- "Refusals and what they return": 7, 12, 13, 14 as reading has them, then 10, 11
+unfoldable pub limitsOf : List ℕ → ℤ → ℤ → ℕ
+limitsOf bytes closed opened = limitsOn (readOf bytes) closed opened
+
+-- "Gate records": the limits in bytes 0–3, nothing else but the sum
+unfoldable pub relimited : List ℕ → ℤ → ℤ → List ℕ
+relimited bytes closed opened = sealedOf (limitBytes closed opened ++ take 26 (drop 4 bytes))
+
+-- "Refusals and what they return": no buffer is written
+unfoldable pub limitedOf : List ℕ → ℤ → ℤ → List ℕ
+limitedOf bytes closed opened = cond (eqb (limitsOf bytes closed opened) 0) (relimited bytes closed opened) bytes
