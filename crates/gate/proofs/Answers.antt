@@ -14,7 +14,8 @@ use types.Run.{OneOf}
 use denote.Enum.Declared.{tagOf}
 use Rattle.gate.specs.Bytes.{all, total}
 use Rattle.gate.specs.Label.{isLabel}
-use Rattle.gate.specs.Reading.{closedAt, openedAt, stateAt, lengthAt, labelAt, paddingAt, sumAt, isFree, labelFits, limitsFit, goodOf, contentOf, readOf}
+use Rattle.gate.specs.Limit.{limitsRefusal}
+use Rattle.gate.specs.Reading.{closedAt, openedAt, stateAt, lengthAt, labelAt, paddingAt, sumAt, isFree, labelFits, goodOf, contentOf, readOf}
 use Rattle.gate.specs.Naming.{ownLength}
 use Rattle.gate.specs.declared.answer.Read.{Read}
 use Rattle.gate.specs.declared.answer.Read.the-variants.{Good, Free, Refused}
@@ -28,7 +29,7 @@ pub record Passed (bytes : List ℕ) : Type 0 where
   pub state : stateAt bytes ≡ 0xa5
   pub summed : sumAt bytes ≡ total (take 30 bytes)
   pub labelled : labelFits bytes ≡ true
-  pub limited : limitsFit (closedAt bytes) (openedAt bytes) ≡ true
+  pub limited : limitsRefusal (closedAt bytes) (openedAt bytes) ≡ 0
 
 module _ {c o t : ℤ} {n : ℕ} where
   refused-good : (k : ℕ) → Refused k ≡ Good c o t n → ⊥
@@ -41,11 +42,12 @@ module _ {c o t : ℤ} {n : ℕ} where
   past true x y never e = absurd (never e)
   past false x y never e = (refl, e)
 
-  content-good : (bytes : List ℕ) → contentOf bytes ≡ Good c o t n → (limitsFit (closedAt bytes) (openedAt bytes) ≡ true) × (goodOf bytes ≡ Good c o t n)
+  content-good : (bytes : List ℕ) → contentOf bytes ≡ Good c o t n → (limitsRefusal (closedAt bytes) (openedAt bytes) ≡ 0) × (goodOf bytes ≡ Good c o t n)
   unfolding contentOf
   content-good bytes e =
-      let p = past (not (limitsFit (closedAt bytes) (openedAt bytes))) (Refused 14) (goodOf bytes) (refused-good 14) e in
-      (not-false _ (p .0), p .1)
+      let number = limitsRefusal (closedAt bytes) (openedAt bytes) in
+      let p = past (not (eqb number 0)) (Refused 14) (goodOf bytes) (refused-good 14) e in
+      (eqb-true number 0 (not-false _ (p .0)), p .1)
 
   -- a good record has passed, and gives what its bytes hold
   pub good-passed : (bytes : List ℕ) → readOf bytes ≡ Good c o t n → Passed bytes × (goodOf bytes ≡ Good c o t n)
@@ -78,7 +80,7 @@ passed-good bytes p =
       eq-eqb (stateAt bytes) 0xa5 (p .state),
       eq-eqb (sumAt bytes) (total (take 30 bytes)) (p .summed),
       p .labelled,
-      p .limited,
+      eq-eqb (limitsRefusal (closedAt bytes) (openedAt bytes)) 0 (p .limited),
     )
 
 module _ (bytes : List ℕ) (fits : labelFits bytes ≡ true) where

@@ -14,7 +14,7 @@ use lib.Seq.{take-at, getD-take, getD-drop}
 use Rattle.gate.specs.Bytes.{total}
 use Rattle.gate.specs.Limit.{inRange, same, limitsRefusal, travelOf}
 use Rattle.gate.specs.Form.{sealedOf, recordOf}
-use Rattle.gate.specs.Reading.{closedAt, openedAt, stateAt, lengthAt, labelAt, sumAt, isFree, labelFits, limitsFit, goodOf, contentOf, readOf}
+use Rattle.gate.specs.Reading.{closedAt, openedAt, stateAt, lengthAt, labelAt, sumAt, isFree, labelFits, goodOf, contentOf, readOf}
 use Rattle.gate.specs.Naming.{nameOf}
 use Rattle.gate.specs.Limiting.{limitsOn, limitsOf, relimited, limitedOf}
 use Rattle.gate.specs.declared.answer.Read.{Read}
@@ -47,7 +47,7 @@ module _ (bytes : List ℕ) (closed opened : ℤ) where
       (cond-by P (not (eqb (stateAt bytes) 0xa5)) (λ e. absurd (omega arith))
       (cond-by P (not (eqb (sumAt bytes) (total (take 30 bytes)))) (λ e. absurd (omega arith))
       (cond-by P (not (labelFits bytes)) (λ e. absurd (omega arith))
-      (cond-by P (not (limitsFit (closedAt bytes) (openedAt bytes))) (λ e. absurd (omega arith)) (λ e. refl))))))
+      (cond-by P (not (eqb (limitsRefusal (closedAt bytes) (openedAt bytes)) 0)) (λ e. absurd (omega arith)) (λ e. refl))))))
 
   -- that it passes every check of reading, and what the new limits pass
   pub limits-taken : limitsOf bytes closed opened ≡ 0 → Passed bytes × ((inRange closed ≡ true) × ((inRange opened ≡ true) × (same closed opened ≡ false)))

@@ -12,7 +12,7 @@ use lib.Seq.{take-at, drop-at, getD-at, getD-append-add, drop-drop}
 use Rattle.gate.specs.Bytes.{total, bytes16}
 use Rattle.gate.specs.Limit.{bits16, travelOf}
 use Rattle.gate.specs.Form.{paddedOf, bodyOf, recordOf}
-use Rattle.gate.specs.Reading.{closedAt, openedAt, labelAt, paddingAt, sumAt, isFree, labelFits, limitsFit, readOf}
+use Rattle.gate.specs.Reading.{closedAt, openedAt, labelAt, paddingAt, sumAt, isFree, labelFits, readOf}
 use Rattle.gate.specs.declared.answer.Read.the-variants.{Good}
 use Rattle.gate.proofs.Numbers.{signed-bits, pair-bytes}
 use Rattle.gate.proofs.Labels.{each-miss, all-replicate}
@@ -72,7 +72,7 @@ module _ (closed opened : ℤ) (label : List ℕ) (w : Writable closed opened la
 
   -- it passes every check of reading
   pub record-passed : Passed (recordOf closed opened label)
-  unfolding recordOf isFree labelFits limitsFit
+  unfolding recordOf isFree labelFits
   record-passed =
       record {
         sized = record-size;

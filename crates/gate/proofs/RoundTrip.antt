@@ -1,11 +1,11 @@
 -- Writing and reading undo each other on all good records.
 -- Assumes nothing.
 use mathlib.Core.Path.{_≡_, refl, sym, ap, _∙_}
-use mathlib.Core.Bool.{true, _&&_}
+use mathlib.Core.Bool.{true}
 use mathlib.Core.List.{List, [], _∷_, _++_}
 use Prim.Native.Nat.{ℕ, zero, suc, _+_, _-_, _≤_, _<_}
 use native.Mathlib.Omega.{arith}
-use borrow.Author.Tests.{ltb-true, not-true}
+use borrow.Author.Tests.{ltb-true}
 use lib.Dec.{ltb}
 use lib.IntN.{ℤ}
 use lib.ListN.{length, getD, take, drop, replicate, length-take, length-drop, take-append-drop, drop-of-length-le}
@@ -14,13 +14,13 @@ use Rattle.gate.specs.Bytes.{eachByte, pair, bytes16}
 use Rattle.gate.specs.Limit.{inRange, bits16, signed16, travelOf}
 use Rattle.gate.specs.Form.{limitBytes, paddedOf, bodyOf, sealedOf, recordOf}
 use Rattle.gate.specs.Writing.{writeOf, writtenOf}
-use Rattle.gate.specs.Reading.{closedAt, openedAt, stateAt, lengthAt, labelAt, paddingAt, limitsFit, readOf}
+use Rattle.gate.specs.Reading.{closedAt, openedAt, stateAt, lengthAt, labelAt, paddingAt, readOf}
 use Rattle.gate.specs.declared.answer.Read.the-variants.{Good}
 use Rattle.gate.proofs.Truth.{and-left, and-right}
 use Rattle.gate.proofs.Numbers.{bits-signed, bytes-pair}
 use Rattle.gate.proofs.Labels.{replicate-all}
 use Rattle.gate.proofs.Answers.{Passed, good-passed, fits-length, fits-label, fits-padding}
-use Rattle.gate.proofs.Writes.{Writable, accepted, accepts, written-good}
+use Rattle.gate.proofs.Writes.{Writable, limits-good, accepted, accepts, written-good}
 use Rattle.gate.proofs.Records.{record-label, record-read}
 
 module _ (buffer : List ℕ) (closed opened : ℤ) (label : List ℕ) (taken : writeOf buffer closed opened label ≡ 0) where
@@ -72,15 +72,14 @@ module _ (bytes : List ℕ) (p : Passed bytes) where
 
   -- a good record can be written
   pub passed-writable : Writable (closedAt bytes) (openedAt bytes) (labelAt bytes)
-  unfolding limitsFit
   passed-writable =
-      let inside = and-left (inRange (closedAt bytes) && inRange (openedAt bytes)) _ (p .limited) in
+      let limits = limits-good (closedAt bytes) (openedAt bytes) (p .limited) in
       record {
         short = rw label-size (fits-length bytes (p .labelled));
         clean = fits-label bytes (p .labelled);
-        low = and-left (inRange (closedAt bytes)) _ inside;
-        high = and-right (inRange (closedAt bytes)) _ inside;
-        apart = not-true _ (and-right (inRange (closedAt bytes) && inRange (openedAt bytes)) _ (p .limited));
+        low = limits .0;
+        high = limits .1 .0;
+        apart = limits .1 .1;
       }
 
   -- the 24 places of the label are the label and spaces

@@ -7,7 +7,6 @@
 -- | `labelAt`, `paddingAt` | the label, and the rest of its twenty-four places |
 -- | `isFree` | a free record |
 -- | `labelFits` | length, label and padding are as the layout has them |
--- | `limitsFit` | two limits are in range and not equal |
 -- | `goodOf` | what a good record gives |
 -- | `contentOf` | what a record gives whose label fits |
 -- | `readOf` | what reading answers |
@@ -18,7 +17,7 @@ use lib.Dec.{eqb, leb}
 use lib.IntN.{ℤ}
 use lib.ListN.{length, getD, take, drop}
 use Rattle.gate.specs.Bytes.{all, total, pair}
-use Rattle.gate.specs.Limit.{inRange, same, signed16, travelOf}
+use Rattle.gate.specs.Limit.{limitsRefusal, signed16, travelOf}
 use Rattle.gate.specs.Label.{isLabel}
 use Rattle.gate.specs.declared.answer.Read.{Read}
 use Rattle.gate.specs.declared.answer.Read.the-variants.{Good, Free, Refused}
@@ -60,17 +59,14 @@ isFree bytes = all 0xff bytes
 unfoldable pub labelFits : List ℕ → Bool
 labelFits bytes = leb (lengthAt bytes) 24 && (isLabel (labelAt bytes) && all 0x20 (paddingAt bytes))
 
--- "Refusals and what they return", 14: limits (our reading: bad or equal limits, docs/DECISIONS.md)
-unfoldable pub limitsFit : ℤ → ℤ → Bool
-limitsFit closed opened = inRange closed && inRange opened && not (same closed opened)
-
 -- "Gate records": reading a good record gives both limits, the travel and the label length (our reading: as stored, docs/DECISIONS.md)
 abbrev pub goodOf : List ℕ → Read
 goodOf bytes = Good (closedAt bytes) (openedAt bytes) (travelOf (closedAt bytes) (openedAt bytes)) (lengthAt bytes)
 
--- "Refusals and what they return", 14: the limits, the last that is checked
+-- "Refusals and what they return", 14: the limits, the last that is checked (our reading: those that writing refuses,
+-- docs/DECISIONS.md)
 unfoldable pub contentOf : List ℕ → Read
-contentOf bytes = cond (not (limitsFit (closedAt bytes) (openedAt bytes))) (Refused 14) (goodOf bytes)
+contentOf bytes = cond (not (eqb (limitsRefusal (closedAt bytes) (openedAt bytes)) 0)) (Refused 14) (goodOf bytes)
 
 -- "Refusals and what they return": reading checks 7, then free, then 12, 13, 14
 unfoldable pub readOf : List ℕ → Read

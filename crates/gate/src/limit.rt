@@ -2,20 +2,13 @@
 ghost use mathlib.Core.Path.{_≡_};
 ghost use mathlib.Core.Bool.{true};
 ghost use Rattle.gate.specs.Bytes.{pair};
-ghost use Rattle.gate.specs.Limit.{inRange, same, limitsRefusal, bits16, signed16, travelOf};
+ghost use Rattle.gate.specs.Limit.{inRange, limitsRefusal, bits16, signed16, travelOf};
 
 // Whether a limit lies in -30,000..30,000.
-pub(crate) fn in_range(limit: i32) -> bool
+fn in_range(limit: i32) -> bool
     ensures { λ r. ⌜ r ≡ inRange limit ⌝ }
 {
     (-30000 <= limit) & (limit <= 30000)
-}
-
-// Whether two limits are equal.
-pub(crate) fn equal(closed: i32, opened: i32) -> bool
-    ensures { λ r. ⌜ r ≡ same closed opened ⌝ }
-{
-    closed == opened
 }
 
 // The first refusal of two limits that applies, or 0.
@@ -26,7 +19,7 @@ pub(crate) fn limits_refusal(closed: i32, opened: i32) -> u8
     if !inside {
         return 10;
     }
-    if equal(closed, opened) {
+    if closed == opened {
         return 11;
     }
     0

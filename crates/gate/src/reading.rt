@@ -3,16 +3,15 @@ ghost use mathlib.Core.Path.{_≡_};
 ghost use lib.Dec.{eqb};
 ghost use lib.ListN.{length, take};
 ghost use Rattle.gate.specs.Bytes.{total};
-ghost use Rattle.gate.specs.Reading.{sumAt, labelFits, limitsFit, contentOf, readOf};
+ghost use Rattle.gate.specs.Reading.{sumAt, labelFits, contentOf, readOf};
 use crate::answer::Read;
 use crate::bytes::all_are;
 use crate::bytes::sum;
 use crate::form::LABEL_BYTES;
 use crate::form::RECORD_BYTES;
 use crate::label::is_label;
-use crate::limit::equal;
-use crate::limit::in_range;
 use crate::limit::limit_of;
+use crate::limit::limits_refusal;
 use crate::limit::travel_of;
 
 // Whether the stored sum is that of bytes 0-29.
@@ -40,15 +39,6 @@ fn label_fits(bytes: &[u8]) -> bool
     all_are(&bytes[end..30], 0x20)
 }
 
-// Whether two limits are in range and not equal.
-fn limits_fit(closed: i16, opened: i16) -> bool
-    ensures { λ r. ⌜ r ≡ limitsFit closed opened ⌝ }
-{
-    let from = closed as i32;
-    let to = opened as i32;
-    in_range(from) & in_range(to) & !equal(from, to)
-}
-
 // What a record whose label fits gives, or the refusal of its limits.
 fn content(bytes: &[u8]) -> Read
     requires { ⌜ length (now bytes) ≡ 32 ⌝ }
@@ -56,7 +46,7 @@ fn content(bytes: &[u8]) -> Read
 {
     let closed = limit_of(bytes[0], bytes[1]);
     let opened = limit_of(bytes[2], bytes[3]);
-    if !limits_fit(closed, opened) {
+    if limits_refusal(closed as i32, opened as i32) != 0 {
         return Read::Refused { number: 14 };
     }
     let length = bytes[5] as usize;
