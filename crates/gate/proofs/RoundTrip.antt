@@ -11,7 +11,7 @@ use lib.IntN.{ℤ}
 use lib.ListN.{length, getD, take, drop, replicate, length-take, length-drop, take-append-drop, drop-of-length-le}
 use lib.Seq.{take-add, drop-drop, drop-cons}
 use Rattle.gate.specs.Bytes.{eachByte, pair, bytes16}
-use Rattle.gate.specs.Limit.{inRange, bits16, signed16, travelOf}
+use Rattle.gate.specs.Limit.{bits16, signed16, travelOf}
 use Rattle.gate.specs.Form.{limitBytes, paddedOf, bodyOf, sealedOf, recordOf}
 use Rattle.gate.specs.Writing.{writeOf, writtenOf}
 use Rattle.gate.specs.Reading.{closedAt, openedAt, stateAt, lengthAt, labelAt, paddingAt, readOf}

@@ -2,8 +2,8 @@
 ghost use mathlib.Core.Path.{_≡_};
 ghost use mathlib.Core.List.{_++_};
 ghost use Prim.Native.Nat.{_+_, _≤_, _<_, _/_, _%_};
-ghost use lib.ListN.{length, take, drop, set, replicate};
-ghost use Rattle.gate.specs.Bytes.{all, total};
+ghost use lib.ListN.{length, getD, take, drop, set, replicate};
+ghost use Rattle.gate.specs.Bytes.{all, total, pair};
 
 // Whether each byte of s is b.
 pub(crate) fn all_are(s: &[u8], b: u8) -> bool
@@ -54,6 +54,14 @@ pub(crate) fn copy_at(d: &mut [u8], at: usize, s: &[u8])
         d[at + i] = s[i];
         i += 1;
     }
+}
+
+// The sixteen bits of two bytes from byte at on, high byte first.
+pub(crate) fn pair_at(s: &[u8], at: usize) -> u16
+    requires { ⌜ at + 1 < length (now s) ⌝ }
+    ensures { λ r. ⌜ r ≡ pair (getD (now (s .entry)) at 0) (getD (now (s .entry)) (at + 1) 0) ⌝ }
+{
+    s[at] as u16 * 256 + s[at + 1] as u16
 }
 
 // Puts sixteen bits into two bytes from byte at on, high byte first.

@@ -1,7 +1,6 @@
 // The two travel limits of a gate: their range, their sixteen bits in two's complement, and the travel between them.
 ghost use mathlib.Core.Path.{_≡_};
 ghost use mathlib.Core.Bool.{true};
-ghost use Rattle.gate.specs.Bytes.{pair};
 ghost use Rattle.gate.specs.Limit.{inRange, limitsRefusal, bits16, signed16, travelOf};
 
 // Whether a limit lies in -30,000..30,000.
@@ -37,11 +36,10 @@ pub(crate) fn bits_of(limit: i32) -> u16
     }
 }
 
-// The limit that two bytes stand for, high byte first.
-pub(crate) fn limit_of(high: u8, low: u8) -> i16
-    ensures { λ r. ⌜ r ≡ signed16 (pair high low) ⌝ }
+// The limit that sixteen bits stand for.
+pub(crate) fn limit_of(bits: u16) -> i16
+    ensures { λ r. ⌜ r ≡ signed16 bits ⌝ }
 {
-    let bits = high as u32 * 256 + low as u32;
     if bits < 32768 {
         bits as i16
     } else {

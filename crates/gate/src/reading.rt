@@ -6,6 +6,7 @@ ghost use Rattle.gate.specs.Bytes.{total};
 ghost use Rattle.gate.specs.Reading.{sumAt, labelFits, contentOf, readOf};
 use crate::answer::Read;
 use crate::bytes::all_are;
+use crate::bytes::pair_at;
 use crate::bytes::sum;
 use crate::form::LABEL_BYTES;
 use crate::form::RECORD_BYTES;
@@ -19,8 +20,7 @@ fn sum_right(bytes: &[u8]) -> bool
     requires { ⌜ length (now bytes) ≡ 32 ⌝ }
     ensures { λ r. ⌜ r ≡ eqb (sumAt (now (bytes .entry))) (total (take 30 (now (bytes .entry)))) ⌝ }
 {
-    let stored = bytes[30] as u16 * 256 + bytes[31] as u16;
-    stored == sum(&bytes[..30])
+    pair_at(bytes, 30) == sum(&bytes[..30])
 }
 
 // Whether length, label and padding are as the layout has them.
@@ -44,8 +44,8 @@ fn content(bytes: &[u8]) -> Read
     requires { ⌜ length (now bytes) ≡ 32 ⌝ }
     ensures { λ r. ⌜ r ≡ contentOf (now (bytes .entry)) ⌝ }
 {
-    let closed = limit_of(bytes[0], bytes[1]);
-    let opened = limit_of(bytes[2], bytes[3]);
+    let closed = limit_of(pair_at(bytes, 0));
+    let opened = limit_of(pair_at(bytes, 2));
     if limits_refusal(closed as i32, opened as i32) != 0 {
         return Read::Refused { number: 14 };
     }

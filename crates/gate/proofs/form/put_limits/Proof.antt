@@ -1,6 +1,5 @@
 -- `gate::form::put_limits`: four stores from byte 0 on leave the four bytes, and behind them what stood there.
 -- Assumes nothing.
-use mathlib.Core.Path.{_∙_}
 use borrow.Author.Needs.{needs}
 use mir.Syntax.{w32}
 use mir.ValLaws.{toZ-ofZ}

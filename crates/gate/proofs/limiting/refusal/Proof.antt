@@ -1,6 +1,6 @@
 -- `gate::limiting::refusal`: each arm is told which answer reading gave, and the definition goes by the same answer.
 -- Assumes nothing.
-use mathlib.Core.Path.{_≡_, sym, _∙_}
+use mathlib.Core.Path.{sym, _∙_}
 use borrow.Author.Needs.{needs}
 use mir.Syntax.{w32}
 use mir.ValLaws.{toZ-ofZ}

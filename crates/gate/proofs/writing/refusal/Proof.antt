@@ -1,6 +1,6 @@
 -- `gate::writing::refusal`: at each way out the tests that led there say which case of the definition holds.
 -- Assumes nothing.
-use mathlib.Core.Path.{_≡_, sym, _∙_}
+use mathlib.Core.Path.{sym, _∙_}
 use Prim.Native.Nat.{_<_}
 use native.Mathlib.Omega.{arith}
 use lib.ListN.{length}
