@@ -5,7 +5,7 @@ use mathlib.Core.Path.{_≡_, refl, sym, ap, _∙_}
 use mathlib.Core.Bool.{true, false, true≢false}
 use mathlib.Core.List.{List}
 use mathlib.Core.Logic.{⊎-elim}
-use Prim.Native.Nat.{ℕ, zero, suc, _≤_, _<_}
+use Prim.Native.Nat.{ℕ, zero, suc, _+_, _≤_, _<_}
 use native.Mathlib.Nat.{eq-or-lt-of-le, le-of-suc-le-suc, not-suc-le-zero}
 use native.Mathlib.Omega.{arith}
 use borrow.Author.Tests.{eqb-true, eqb-false, eq-eqb}
@@ -21,6 +21,7 @@ use Rattle.gate.specs.Naming.{ownLength, nameOf}
 use Rattle.gate.specs.declared.answer.Read.{Read}
 use Rattle.gate.specs.declared.answer.Read.the-variants.{Good, Free, Refused}
 use Rattle.gate.proofs.Truth.{by-test}
+use Rattle.gate.proofs.Answers.{good-length}
 use Rattle.gate.proofs.Names.{standard-name, own-name, good-own}
 use Rattle.gate.proofs.RoundTrip.{written-read, written-label}
 
@@ -80,6 +81,15 @@ not-good-name bytes standard e = standard-name bytes standard (nothing (readOf b
     nothing (Good c o t n) e = absurd (true≢false e)
     nothing Free e = refl
     nothing (Refused k) e = refl
+
+-- what is shown of a record lies in it
+pub own-within : (bytes : List ℕ) (n : ℕ) → ownLength bytes (readOf bytes) ≡ n → (n ≡ 0 → ⊥) → 6 + n ≤ length bytes
+own-within bytes n e some = from (readOf bytes) refl e
+  where
+    from : (r : Read) → readOf bytes ≡ r → ownLength bytes r ≡ n → 6 + n ≤ length bytes
+    from (Good c o t m) good e = let s = good-length bytes good in omega (arith, s .0, s .1, trimmed-short (take m (drop 6 bytes)) m)
+    from Free good e = absurd (some (sym e))
+    from (Refused k) good e = absurd (some (sym e))
 
 -- two good records with the same label are named the same
 pub same-name : {c o t c′ o′ t′ : ℤ} {n : ℕ} (one two standard : List ℕ) → readOf one ≡ Good c o t n → readOf two ≡ Good c′ o′ t′ n → take n (drop 6 one) ≡ take n (drop 6 two) → nameOf one standard ≡ nameOf two standard

@@ -1,20 +1,20 @@
 // The name shown for a record: its own label without trailing spaces, or the standard label.
 ghost use mathlib.Core.Path.{_≡_};
-ghost use Prim.Native.Nat.{_≤_};
-ghost use lib.ListN.{length, take, drop};
-ghost use Rattle.gate.specs.Label.{trimmedLength};
-ghost use Rattle.gate.specs.Naming.{spanOf, nameOf};
+ghost use Rattle.gate.specs.Reading.{readOf};
+ghost use Rattle.gate.specs.Naming.{ownLength, spanOf, nameOf};
 use crate::answer::Read;
 use crate::answer::Shown;
 use crate::label::trimmed;
 use crate::reading::read;
 
-// How many of the n bytes of a label are shown.
-fn kept(bytes: &[u8], n: usize) -> usize
-    requires { ⌜ (length (now bytes) ≡ 32) × (n ≤ 24) ⌝ }
-    ensures { λ r. ⌜ (r ≡ trimmedLength (take n (drop 6 (now (bytes .entry)))) n) × (r ≤ 24) ⌝ }
+// How many bytes of the record's label are shown; none of a record that is free, refused or blank.
+fn own_length(bytes: &[u8]) -> usize
+    ensures { λ r. ⌜ r ≡ ownLength (now (bytes .entry)) (readOf (now (bytes .entry))) ⌝ }
 {
-    let end = 6 + n;
+    let Read::Good { length, .. } = read(bytes) else {
+        return 0;
+    };
+    let end = 6 + length;
     trimmed(&bytes[6..end])
 }
 
@@ -22,14 +22,7 @@ fn kept(bytes: &[u8], n: usize) -> usize
 pub fn shown_span(bytes: &[u8], standard: &[u8]) -> Shown
     ensures { λ r. ⌜ r ≡ spanOf (now (bytes .entry)) (now (standard .entry)) ⌝ }
 {
-    let Read::Good { length, .. } = read(bytes) else {
-        return Shown {
-            own: false,
-            start: 0,
-            len: standard.len(),
-        };
-    };
-    let len = kept(bytes, length);
+    let len = own_length(bytes);
     if len == 0 {
         return Shown {
             own: false,
@@ -48,10 +41,7 @@ pub fn shown_span(bytes: &[u8], standard: &[u8]) -> Shown
 pub fn shown_name<'a>(bytes: &'a [u8], standard: &'a [u8]) -> &'a [u8]
     ensures { λ r. ⌜ now r ≡ nameOf (now (bytes .entry)) (now (standard .entry)) ⌝ }
 {
-    let Read::Good { length, .. } = read(bytes) else {
-        return standard;
-    };
-    let len = kept(bytes, length);
+    let len = own_length(bytes);
     if len == 0 {
         return standard;
     }
