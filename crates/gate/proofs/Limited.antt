@@ -1,7 +1,7 @@
 -- New limits into a good record: the record then holds the new limits and the old label, and whatever is answered no byte beside
 -- the limits and the sum changes.
 -- Assumes nothing.
-use mathlib.Core.Path.{_≡_, refl, sym, ap, _∙_}
+use mathlib.Core.Path.{_≡_, refl, sym, ap, subst, _∙_}
 use mathlib.Core.Bool.{true, false, not}
 use mathlib.Core.List.{List}
 use Prim.Native.Nat.{ℕ, _≤_, _<_, _+_, _-_}
@@ -37,6 +37,12 @@ module _ (bytes : List ℕ) (closed opened : ℤ) where
   unfolding limitedOf
   limited-refused e = rw (ne-eqb (limitsOf bytes closed opened) 0 e)
 
+  -- what holds of what an answer of 0 leaves, and held before, holds afterwards
+  limited-by : (P : List ℕ → Type 0) → (limitsOf bytes closed opened ≡ 0 → P (limitedOf bytes closed opened)) → P bytes → P (limitedOf bytes closed opened)
+  limited-by P taken before =
+      let number = limitsOf bytes closed opened in
+      by-test (eqb number 0) (λ e. taken (eqb-true number 0 e)) (λ e. subst P (sym (limited-refused (eqb-false number 0 e))) before)
+
   -- an answer of 0 says that the record is good
   pub taken-good : limitsOf bytes closed opened ≡ 0 → readOf bytes ≡ goodOf bytes
   unfolding limitsOf readOf contentOf
@@ -58,6 +64,7 @@ module _ (bytes : List ℕ) (closed opened : ℤ) where
       (good-passed bytes good .0, limits-good closed opened left)
 
 module _ (bytes : List ℕ) (closed opened : ℤ) (taken : limitsOf bytes closed opened ≡ 0) where
+  -- the record is good
   passed : Passed bytes
   passed = limits-taken bytes closed opened taken .0
 
@@ -95,39 +102,35 @@ module _ (bytes : List ℕ) (closed opened : ℤ) where
   -- whatever is answered, the same name is shown
   pub limited-name : (standard : List ℕ) → nameOf (limitedOf bytes closed opened) standard ≡ nameOf bytes standard
   limited-name standard =
-      by-test (eqb (limitsOf bytes closed opened) 0)
-      (λ e.
-      let taken = eqb-true (limitsOf bytes closed opened) 0 e in
+      limited-by bytes closed opened (λ l. nameOf l standard ≡ nameOf bytes standard)
+      (λ taken.
       let good = taken-good bytes closed opened taken in
       same-name (limitedOf bytes closed opened) bytes standard
       (limited-read bytes closed opened taken good)
       good
       (limited-label bytes closed opened taken good))
-      (λ e. ap (λ (l : List ℕ). nameOf l standard) (limited-refused bytes closed opened (eqb-false (limitsOf bytes closed opened) 0 e)))
+      refl
 
   -- the buffer keeps its length
   pub limited-size : length (limitedOf bytes closed opened) ≡ length bytes
   limited-size =
-      by-test (eqb (limitsOf bytes closed opened) 0)
-      (λ e.
-      let taken = eqb-true (limitsOf bytes closed opened) 0 e in
-      ap length (limited-record bytes closed opened taken)
+      limited-by bytes closed opened (λ l. length l ≡ length bytes)
+      (λ taken. ap length (limited-record bytes closed opened taken)
       ∙ record-size closed opened (labelAt bytes) (writable bytes closed opened taken)
-      ∙ sym (limits-taken bytes closed opened taken .0 .sized))
-      (λ e. ap length (limited-refused bytes closed opened (eqb-false (limitsOf bytes closed opened) 0 e)))
+      ∙ sym (passed bytes closed opened taken .sized))
+      refl
 
   -- and its bytes 4–29
   middle-kept : take 26 (drop 4 (limitedOf bytes closed opened)) ≡ take 26 (drop 4 bytes)
   unfolding relimited
   middle-kept =
-      by-test (eqb (limitsOf bytes closed opened) 0)
-      (λ e.
-      let taken = eqb-true (limitsOf bytes closed opened) 0 e in
-      let size = limits-taken bytes closed opened taken .0 .sized in
+      limited-by bytes closed opened (λ l. take 26 (drop 4 l) ≡ take 26 (drop 4 bytes))
+      (λ taken.
+      let size = passed bytes closed opened taken .sized in
       let many : length (take 26 (drop 4 bytes)) ≡ 26 = simp (length-take, length-drop) (omega arith) in
       ap (λ (l : List ℕ). take 26 (drop 4 l)) (limited-good bytes closed opened taken)
       ∙ take-at (take 26 (drop 4 bytes)) _ 26 many)
-      (λ e. ap (λ (l : List ℕ). take 26 (drop 4 l)) (limited-refused bytes closed opened (eqb-false (limitsOf bytes closed opened) 0 e)))
+      refl
 
   -- nobody touches the memory beside the limits: but for bytes 0–3 and the sum each byte is kept, whatever is answered
   pub beside-limits : (k : ℕ) → 4 ≤ k → k < 30 → getD (limitedOf bytes closed opened) k 0 ≡ getD bytes k 0

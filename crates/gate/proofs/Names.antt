@@ -19,6 +19,7 @@ module _ (bytes standard : List ℕ) where
   unfolding spanOf
   standard-span e = rw (eq-eqb (ownLength bytes (readOf bytes)) 0 e)
 
+  -- so its bytes are those of the standard label
   pub standard-name : ownLength bytes (readOf bytes) ≡ 0 → nameOf bytes standard ≡ standard
   standard-name e = rw (standard-span e) (take-length standard)
 
@@ -27,6 +28,7 @@ module _ (bytes standard : List ℕ) where
   unfolding spanOf
   own-span n e some = rw (e, ne-eqb n 0 some)
 
+  -- and its bytes are theirs
   pub own-name : (n : ℕ) → ownLength bytes (readOf bytes) ≡ n → (n ≡ 0 → ⊥) → nameOf bytes standard ≡ take n (drop 6 bytes)
   own-name n e some = rw (own-span n e some)
 
