@@ -19,7 +19,7 @@ abbrev μ-loop : tie.MeasureT-loop
 returns : tie.Need-returns Inv-loop μ-loop
 returns c =
     let l = c .before .before .before in (
-      sym (l .loop .inv .1 ∙ rw (trim-step _ _ (c .before .before .loop-test .taken), ne-eqb _ _ (c .if1 .taken))),
+      sym (l .loop .inv .1 ∙ rw (trim-step _ _ (c .before .before .loop-test .taken), ne-eqb _ 0x20 (c .if1 .taken))),
       l .loop .inv .0,
     )
 
@@ -27,7 +27,7 @@ loop-again : tie.Need-loop-again Inv-loop μ-loop
 loop-again c =
     let l = c .before .before .before in (
       omega arith,
-      l .loop .inv .1 ∙ rw (trim-step _ _ (c .before .before .loop-test .taken), eq-eqb _ _ (c .if1 .left)),
+      l .loop .inv .1 ∙ rw (trim-step _ _ (c .before .before .loop-test .taken), eq-eqb _ 0x20 (c .if1 .left)),
     )
 
 returns-2 : tie.Need-returns-2 Inv-loop μ-loop

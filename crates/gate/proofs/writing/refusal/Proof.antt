@@ -1,7 +1,7 @@
 -- `gate::writing::refusal`: at each way out the tests that led there say which case of the definition holds.
 -- Assumes nothing.
 use mathlib.Core.Path.{sym, _∙_}
-use Prim.Native.Nat.{_<_}
+use Prim.Native.Nat.{_≤_, _<_}
 use native.Mathlib.Omega.{arith}
 use lib.ListN.{length}
 use borrow.Author.Needs.{needs}
@@ -27,9 +27,11 @@ returns-3 : tie.Need-returns-3
 unfolding writeOf
 returns-3 c =
     let two = c .before .before in
+    let n = length (two .before .before .before .before .args .label .now) in
+    let short : n ≤ 24 = omega arith in
     rw (
       eq-eqb _ _ (two .before .if1 .left),
-      le-ltb _ _ (two .if2 .left),
+      le-ltb 24 n short,
       sym (c .before .is-label .ensures) ∙ not-true _ (c .if3 .taken),
     )
 
@@ -39,12 +41,14 @@ returns-4 c =
     let three = c .before in
     let two = three .before .before in
     let s = two .before .before .before .before in
+    let n = length (s .args .label .now) in
+    let short : n ≤ 24 = omega arith in
     rw (
       c .limits-refusal .ensures,
       toZ-ofZ w32 (s .args .closed) (s .fits .closed),
       toZ-ofZ w32 (s .args .opened) (s .fits .opened),
       eq-eqb _ _ (two .before .if1 .left),
-      le-ltb _ _ (two .if2 .left),
+      le-ltb 24 n short,
       sym (three .before .is-label .ensures) ∙ not-false _ (three .if3 .left),
     )
 
