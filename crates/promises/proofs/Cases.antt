@@ -18,7 +18,7 @@ use Rattle.gate.specs.Limit.{inRange, same, bits16, signed16}
 use Rattle.gate.specs.Label.{labelByte}
 use Rattle.gate.specs.Form.{recordOf}
 use Rattle.gate.specs.Writing.{writeOf, writtenOf}
-use Rattle.gate.specs.Reading.{isFree, labelFits, limitsFit, heldOf, readOf}
+use Rattle.gate.specs.Reading.{isFree, labelFits, contentOf, readOf}
 use Rattle.trace.specs.Bytes.{eventOf}
 use Rattle.trace.specs.Trace.{answersOf}
 use Rattle.messages.specs.Messages.{byteSent}
@@ -28,7 +28,7 @@ use Rattle.promises.specs.Cases.{holds, worked, errors}
 
 -- both lists, computed
 computed : T (holds worked) × T (holds errors)
-unfolding loaded storedTo firstLocked phaseFits phasePulls risen latchWritten lockWritten written chipFits pulls reacted reactedArray sampled judged judgedArray next nextArray refusal step noteOf stepped notes eventOf answersOf spelled rightly arrayEffect rightEffect stopEffect effectMoved effectArray slaveTaken addressTaken arrayData registerData byteBegun byteEnded fallIn edgeOf afterPulses pulse pulsed recovered recoveryAnswer inRange same bits16 signed16 labelByte recordOf writeOf writtenOf isFree labelFits limitsFit heldOf readOf byteSent clocks bytesTaken byteTaken randomRead highs bitsIn byteOf
+unfolding loaded storedTo firstLocked phaseFits phasePulls risen latchWritten lockWritten written chipFits pulls reacted reactedArray sampled judged judgedArray next nextArray refusal step noteOf stepped notes eventOf answersOf spelled rightly arrayEffect rightEffect stopEffect effectMoved effectArray slaveTaken addressTaken arrayData registerData byteBegun byteEnded fallIn edgeOf afterPulses pulse pulsed recovered recoveryAnswer inRange same bits16 signed16 labelByte recordOf writeOf writtenOf isFree labelFits contentOf readOf byteSent clocks bytesTaken byteTaken randomRead highs bitsIn byteOf
 computed = (tt, tt)
 
 -- cases 1-12

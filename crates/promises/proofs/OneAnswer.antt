@@ -25,9 +25,10 @@ use Rattle.trace.specs.Trace.{ranOf, runArray, runAnswers}
 use Rattle.trace.proofs as trace
 use Rattle.recovery.specs.Recovery.{recoveryAnswer, recoveryArray}
 use Rattle.recovery.proofs as recovery
-use Rattle.gate.specs.Naming.{placeOf, nameOf}
+use Rattle.gate.specs.Limiting.{limitsOf, limitedOf}
+use Rattle.gate.specs.Naming.{spanOf, nameOf}
 use Rattle.gate.specs.Reading.{readOf}
-use Rattle.gate.specs.Values.{givenOf}
+use Rattle.gate.specs.Answer.{givenOf}
 use Rattle.gate.specs.Writing.{writeOf, writtenOf}
 use Rattle.gate.proofs as gate
 use Rattle.promises.specs.OneAnswer.{Contract, Input, Result, Left, Allows, Outcome, outcome, OneAnswer, whole}
@@ -53,7 +54,7 @@ alone {left} p i = (p i, left)
 with-array : {A U : Type 0} {r d : A} {left : Unit {0} × (List ℕ × U)} {ys : List ℕ} → (r ≡ d) × (left .1 .0 ≡ ys) → _≡_ {A = A × (Unit {0} × (List ℕ × U))} (r, left) (d, (tt, (ys, left .1 .1)))
 with-array {left} p i = (p .0 i, (tt, (p .1 i, left .1 .1)))
 
--- the name shown is a slice: what the caller has of it is its bytes, and where they lie is the answer of `shown_place`
+-- the name shown is a slice: what the caller has of it is its bytes, and where they lie is the answer of `shown_span`
 abbrev shownName : Contract
 shownName =
     record {
@@ -172,6 +173,10 @@ operations =
     ∷ one (whole 2 gate.write.Kinds.ps gate.write.Kinds.r gate.write.Reads.Post)
     (λ κs (buffer, (closed, (opened, (label, end)))). (writeOf (now buffer) closed opened (now label), (writtenOf (now buffer) closed opened (now label), (tt, (tt, (tt, tt))))))
     (λ κs input r left p i. (p .0 i, (p .1 i, left .1)))
+    -- gate::set_limits
+    ∷ one (whole 1 gate.set_limits.Kinds.ps gate.set_limits.Kinds.r gate.set_limits.Reads.Post)
+    (λ κs (bytes, (closed, (opened, end))). (limitsOf (now bytes) closed opened, (limitedOf (now bytes) closed opened, (tt, (tt, tt)))))
+    (λ κs input r left p i. (p .0 i, (p .1 i, left .1)))
     -- gate::read
     ∷ one (whole 1 gate.read.Kinds.ps gate.read.Kinds.r gate.read.Reads.Post)
     (λ κs (bytes, end). (readOf (now bytes), (tt, tt)))
@@ -180,9 +185,9 @@ operations =
     ∷ one (whole 0 gate.answer.Read.given.Kinds.ps gate.answer.Read.given.Kinds.r gate.answer.Read.given.Reads.Post)
     (λ κs (self, end). (givenOf self, (tt, tt)))
     (λ κs input r left. alone)
-    -- gate::shown_place
-    ∷ one (whole 2 gate.shown_place.Kinds.ps gate.shown_place.Kinds.r gate.shown_place.Reads.Post)
-    (λ κs (bytes, (standard, end)). (placeOf (now bytes) (now standard), (tt, (tt, tt))))
+    -- gate::shown_span
+    ∷ one (whole 2 gate.shown_span.Kinds.ps gate.shown_span.Kinds.r gate.shown_span.Reads.Post)
+    (λ κs (bytes, (standard, end)). (spanOf (now bytes) (now standard), (tt, (tt, tt))))
     (λ κs input r left. alone)
     -- gate::shown_name
     ∷ one shownName

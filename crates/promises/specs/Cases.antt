@@ -35,7 +35,7 @@ use Rattle.recovery.specs.Pulses.{afterPulses}
 use Rattle.recovery.specs.Recovery.{recoveryAnswer}
 use Rattle.gate.specs.Limit.{same}
 use Rattle.gate.specs.Reading.{readOf}
-use Rattle.gate.specs.Values.{givenOf}
+use Rattle.gate.specs.Answer.{givenOf}
 use Rattle.gate.specs.Writing.{writeOf, writtenOf}
 use Rattle.messages.specs.Messages.{begin, message, registerWrite}
 use Rattle.messages.specs.RandomRead.{randomRead, bytesRead}
