@@ -1,12 +1,16 @@
 -- The view of an event, and what it says at once: the array keeps its length, a sample that is no stop writes nothing, and what each note means.
 -- Assumes nothing.
-use Prim.Native.Nat.{ℕ}
-use mathlib.Core.Bool.{Bool, true, false, false≢true}
+use Prim.Native.Nat.{ℕ, _≤_}
+use mathlib.Core.Bool.{Bool, true, false, _||_, false≢true}
 use mathlib.Core.Path.{_≡_, refl, sym, ap, _∙_}
 use mathlib.Core.List.{List}
+use native.Mathlib.Decide.{ℕ-discrete}
 use native.Mathlib.Omega.{arith}
+use borrow.Author.Tests.{eqb-true}
+use lib.Dec.{eqb}
 use lib.ListN.{length, getD}
 use Rattle.parts.specs.declared.register.Register.{Register}
+use Rattle.parts.specs.declared.register.Written.{Written}
 use Rattle.parts.proofs.LoadLaws.{length-stored}
 use Rattle.parts.proofs.RegisterLaws.{Noted, written-noted}
 use Rattle.chip.specs.Event.{next, nextArray}
@@ -30,6 +34,27 @@ view e c xs =
     (λ stopped storable. store (record { stopped = stopped; storable = storable; array = refl; register = refl; began = refl; said = refl }))
     (λ event. done (record { event = event; array = refl; register = refl; ended = refl; silent = refl }))
     (λ event. clear (record { event = event; array = refl; register = refl; ended = refl; silent = refl }))
+
+-- a note that says nothing of a write is at most 7
+mute-most : (note : ℕ) → mute note ≡ true → note ≤ 7
+unfolding mute
+mute-most note h = go (eqb note 0) (eqb note 4) (eqb note 5) (eqb note 7) refl refl refl refl h
+  where
+    go : (a b c d : Bool) → eqb note 0 ≡ a → eqb note 4 ≡ b → eqb note 5 ≡ c → eqb note 7 ≡ d → (a || b || c || d) ≡ true → note ≤ 7
+    go true b c d e f g i h = omega (arith, eqb-true note 0 e)
+    go false true c d e f g i h = omega (arith, eqb-true note 4 f)
+    go false false true d e f g i h = omega (arith, eqb-true note 5 g)
+    go false false false true e f g i h = omega (arith, eqb-true note 7 i)
+    go false false false false e f g i h = absurd (false≢true h)
+
+-- and so is a register byte's
+noted-most : {r : Register} {w : Written} → Noted r w → w .note ≤ 7
+noted-most {w = w} noted = go (ℕ-discrete (w .note) 2) (ℕ-discrete (w .note) 3)
+  where
+    go : Dec (w .note ≡ 2) → Dec (w .note ≡ 3) → w .note ≤ 7
+    go (yes e) three = omega arith
+    go (no e) (yes f) = omega arith
+    go (no e) (no f) = omega (arith, noted .only e f)
 
 -- a sample is neither of the other events
 isSample : Event → Bool
@@ -88,9 +113,21 @@ module _ {e : Event} {c : Chip} {xs : List ℕ} {after : Register} {busy : Bool}
   did-unstopped s here other (change d) = absurd (false≢true (sym other ∙ d .stopped .stop))
   did-unstopped s here other (store d) = absurd (false≢true (sym other ∙ d .stopped .stop))
 
+  -- no note is above 7
+  did-note : Did e c xs after busy note ys → note ≤ 7
+  did-note (nothing d) = mute-most note (d .silent)
+  did-note (done d) = omega (arith, d .silent)
+  did-note (clear d) = omega (arith, d .silent)
+  did-note (change d) = noted-most (changed-noted d)
+  did-note (store d) = omega (arith, d .said)
+
 -- an event keeps the array's length
 pub next-length : (e : Event) (c : Chip) (xs : List ℕ) → length (nextArray e c xs) ≡ length xs
 next-length e c xs = did-length (view e c xs)
+
+-- no event has a note above 7
+pub next-note : (e : Event) (c : Chip) (xs : List ℕ) → next e c xs .note ≤ 7
+next-note e c xs = did-note (view e c xs)
 
 -- the note of an event says what it did
 pub next-told : (e : Event) (c : Chip) (xs : List ℕ) → Told e c xs (next e c xs .chip .register) (next e c xs .chip .busy) (next e c xs .note) (nextArray e c xs)

@@ -21,8 +21,8 @@ use Rattle.recovery.specs.Pulses.{Unchanged}
 use Rattle.recovery.specs.Recovery.{recovered, recoveryAnswer, recoveryArray}
 use Rattle.recovery.proofs.TenPulses.{first-high}
 use Rattle.recovery.proofs.Recovering.{recovery-keeps, recovery-starts, recovery-taken}
-use Rattle.trace.specs.Trace.{answersOf, runAnswers}
-use Rattle.trace.proofs.RunLaws.{run-answers}
+use Rattle.trace.specs.Trace.{answersOf, ranOf, runAnswers}
+use Rattle.trace.proofs.RunLaws.{run-taken, run-answers}
 use Rattle.messages.specs.RandomRead.{randomRead, held, Returns}
 use Rattle.messages.specs.Wires.{heardOf}
 use Rattle.messages.proofs.Held.{held-same, held-bytes}
@@ -95,10 +95,14 @@ module _ (s : Scene) (w : World) (taken : refusal (w .chip) (w .array) ≡ 0) (p
 
   -- the read is not refused either
   reads : (room : List ℕ) → length (theRead s w) ≤ 65536 → length (theRead s w) ≤ length room
-      → runAnswers (atStart s w .chip) (atStart s w .array) (theRead s w) room ≡ answersOf (theRead s w) (atStart s w) ++ drop (length (theRead s w)) room
+      → (ranOf (atStart s w .chip) (atStart s w .array) (theRead s w) room .refusal ≡ 0)
+      × (runAnswers (atStart s w .chip) (atStart s w .array) (theRead s w) room ≡ answersOf (theRead s w) (atStart s w) ++ drop (length (theRead s w)) room)
   reads room few fits =
-      run-answers (atStart s w .chip) (atStart s w .array) (theRead s w) room (recovery-taken (s .pin) (done s w) done-taken) few fits
-      (spelled-events (s .pins) (randomRead (w .chip .select) (s .address) (s .n)))
+      let free = recovery-taken (s .pin) (done s w) done-taken in
+      let events = spelled-events (s .pins) (randomRead (w .chip .select) (s .address) (s .n)) in (
+        run-taken (atStart s w .chip) (atStart s w .array) (theRead s w) room free few fits events,
+        run-answers (atStart s w .chip) (atStart s w .array) (theRead s w) room free few fits events,
+      )
 
 -- Demand 3 for any chip in range with an array of 16,384 bytes, however it came there
 pub protected-read : (s : Scene) (w : World) → refusal (w .chip) (w .array) ≡ 0 → Bytes (w .array) → Protected s w → Promised s w

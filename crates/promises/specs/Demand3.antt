@@ -23,7 +23,7 @@ use Rattle.chip.specs.declared.wire.Event.{Event}
 use Rattle.chip.specs.declared.wire.Event.the-variants.{ProgramDone}
 use Rattle.recovery.specs.Pulses.{FirstHigh, Unchanged}
 use Rattle.recovery.specs.Recovery.{Freed, freed, recovered, recoveryAnswer, recoveryArray}
-use Rattle.trace.specs.Trace.{answersOf, runAnswers}
+use Rattle.trace.specs.Trace.{answersOf, ranOf, runAnswers}
 use Rattle.messages.specs.RandomRead.{randomRead, Acknowledged, bitsRead, bytesRead, held}
 use Rattle.messages.specs.Wires.{spelled, heardOf, bitsOf}
 
@@ -103,7 +103,8 @@ pub record Promised (s : Scene) (w : World) : Type 0 where
       (room : List ℕ)
       → length (theRead s w) ≤ 65536
       → length (theRead s w) ≤ length room
-      → runAnswers (atStart s w .chip) (atStart s w .array) (theRead s w) room ≡ answersOf (theRead s w) (atStart s w) ++ drop (length (theRead s w)) room
+      → (ranOf (atStart s w .chip) (atStart s w .array) (theRead s w) room .refusal ≡ 0)
+      × (runAnswers (atStart s w .chip) (atStart s w .array) (theRead s w) room ≡ answersOf (theRead s w) (atStart s w) ++ drop (length (theRead s w)) room)
   -- the chip acknowledges each of the four bytes that the master sends
   pub acknowledged : Acknowledged (heard s w)
   -- the line's bits are those of the bytes that stood there before the noise, and make these bytes

@@ -95,7 +95,12 @@ run-room c xs bytes room h =
 
 -- a chip in range over a whole array takes every row of event bytes that is short enough and has room
 module _ (c : Chip) (xs bytes old : List ℕ) (taken : refusal c xs ≡ 0) (few : length bytes ≤ 65536) (fits : length bytes ≤ length old) (events : allEvents bytes ≡ true) where
-  -- and is left as the events leave it
+  -- refused with nothing
+  pub run-taken : ranOf c xs bytes old .refusal ≡ 0
+  unfolding ranOf runRefusal
+  run-taken = rw (taken, le-leb _ _ few, le-leb _ _ fits, events)
+
+  -- it is left as the events leave it
   pub run-whole : world (ranOf c xs bytes old .chip) (runArray c xs bytes old) ≡ after bytes (world c xs)
   unfolding ranOf runArray unless runRefusal
   run-whole = rw (taken, le-leb _ _ few, le-leb _ _ fits, events)
