@@ -1,4 +1,4 @@
--- Theorems in the paper's numbers and values: what was written is given back with number 0, and whatever is not good gives zeros.
+-- Theorems in numbers and values: what was written is given back with number 0, and whatever is not good gives zeros.
 -- Assumes nothing.
 use mathlib.Core.Path.{_≡_, refl, ap}
 use mathlib.Core.Bool.{true, false, true≢false}

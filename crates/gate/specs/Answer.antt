@@ -1,4 +1,4 @@
--- The paper's number and values for each answer of reading, and which answer it is ("Refusals and what they return", "Gate records").
+-- The number and values for each answer of reading, and which answer it is. (RULES G11, G13, G14, O9.)
 --
 -- | Name | Meaning |
 -- |---|---|
@@ -17,39 +17,39 @@ use Rattle.gate.specs.declared.answer.Read.{Read}
 use Rattle.gate.specs.declared.answer.Read.the-variants.{Good, Free, Refused}
 use Rattle.gate.specs.declared.answer.Given.{Given}
 
--- "Refusals and what they return": limits and travel 0, label length 0
+-- O9: limits and travel 0, label length 0
 abbrev pub zerosOf : ℕ → Given
 zerosOf number = record { number = number; closed = pos 0; opened = pos 0; travel = pos 0; length = 0 }
 
--- "Gate records": a good record gives both limits, the travel and the label length; a free one gives zeros for them (our reading: and
+-- G13, G14: a good record gives both limits, the travel and the label length; a free one gives zeros for them (our reading: and
 -- the number 0, docs/DECISIONS.md)
 abbrev pub givenOf : Read → Given
 givenOf (Good closed opened travel n) = record { number = 0; closed = closed; opened = opened; travel = travel; length = n }
 givenOf Free = zerosOf 0
 givenOf (Refused number) = zerosOf number
 
--- "Gate records": a good record
+-- G11: a good record
 abbrev pub isGood : Read → Bool
 isGood (Good c o t n) = true
 isGood Free = false
 isGood (Refused k) = false
 
--- "Gate records": a free record
+-- G7, G14: a free record
 abbrev pub saysFree : Read → Bool
 saysFree (Good c o t n) = false
 saysFree Free = true
 saysFree (Refused k) = false
 
--- "Refusals and what they return": the refusal of this number
+-- G11: the refusal of this number
 abbrev pub refusedBy : ℕ → Read → Bool
 refusedBy number (Good c o t n) = false
 refusedBy number Free = false
 refusedBy number (Refused k) = eqb k number
 
--- "Refusals and what they return": one for each that the answer is
+-- G11: one for each that the answer is
 abbrev pub oneIf : Bool → ℕ
 oneIf b = cond b 1 0
 
--- "Refusals and what they return": how many of the five it is
+-- G11: how many of the five it is
 abbrev pub outcomes : Read → ℕ
 outcomes r = oneIf (isGood r) + oneIf (saysFree r) + oneIf (refusedBy 12 r) + oneIf (refusedBy 13 r) + oneIf (refusedBy 14 r)

@@ -1,4 +1,4 @@
--- Bytes in general: tests of each one, their sum, and sixteen bits as two of them ("Refusals and what they return", "Gate records").
+-- Bytes in general: tests of each one, their sum, and sixteen bits as two of them. (RULES G2, G5-G7, F9, F14.)
 --
 -- | Name | Meaning |
 -- |---|---|
@@ -12,24 +12,24 @@ use mathlib.Core.Bool.{Bool, true, _&&_}
 use mathlib.Core.List.{List, [], _∷_}
 use lib.Dec.{eqb}
 
--- "Refusals and what they return", 9 and 14: a test holds of each byte
+-- F9, F14: a test holds of each byte
 abbrev pub eachByte : (ℕ → Bool) → List ℕ → Bool
 eachByte test [] = true
 eachByte test (b ∷ bytes) = test b && eachByte test bytes
 
--- "Gate records": all FFh, and padded with 20h
+-- G5, G7: all FFh, and padded with 20h
 abbrev pub all : ℕ → List ℕ → Bool
 all b bytes = eachByte (λ x. eqb x b) bytes
 
--- "Gate records": the sum of bytes
+-- G6: the sum of bytes
 abbrev pub total : List ℕ → ℕ
 total [] = 0
 total (b ∷ bytes) = b + total bytes
 
--- "Gate records": high byte first
+-- G2, G6: high byte first
 abbrev pub pair : ℕ → ℕ → ℕ
 pair high low = high * 0x100 + low
 
--- "Gate records": high byte first
+-- G2, G6: high byte first
 abbrev pub bytes16 : ℕ → List ℕ
 bytes16 u = u / 0x100 ∷ u % 0x100 ∷ []

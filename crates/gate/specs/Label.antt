@@ -1,4 +1,4 @@
--- The label of a gate ("Refusals and what they return", "Gate records").
+-- The label of a gate. (RULES G9, G20, F9.)
 --
 -- | Name | Meaning |
 -- |---|---|
@@ -12,15 +12,15 @@ use lib.Dec.{eqb, leb}
 use lib.ListN.{getD}
 use Rattle.gate.specs.Bytes.{eachByte}
 
--- "Refusals and what they return", 9: a label byte lies in 20h–7Eh
+-- G9, F9: a label byte lies in 20h–7Eh
 unfoldable pub labelByte : ℕ → Bool
 labelByte b = leb 0x20 b && leb b 0x7e
 
--- "Refusals and what they return", 9: a label holds label bytes alone
+-- G9: a label holds label bytes alone
 abbrev pub isLabel : List ℕ → Bool
 isLabel bytes = eachByte labelByte bytes
 
--- "Gate records": the label without its trailing spaces (our reading: a space is 20h alone, docs/DECISIONS.md)
+-- G20: the label without its trailing spaces (our reading: a space is 20h alone, docs/DECISIONS.md)
 unfoldable pub trimmedLength : List ℕ → ℕ → ℕ
 trimmedLength label zero = 0
 trimmedLength label (suc n) = cond (eqb (getD label n 0) 0x20) (trimmedLength label n) (suc n)

@@ -1,5 +1,4 @@
--- New limits into a good record: the refusals in their order, and what the buffer holds afterwards (house: the paper has no such
--- operation; its numbers and its layout hold).
+-- New limits into a good record: the refusals in their order, and what the buffer holds afterwards. (RULES G17, G18, O6.)
 --
 -- | Name | Meaning |
 -- |---|---|
@@ -19,20 +18,20 @@ use Rattle.gate.specs.Reading.{readOf}
 use Rattle.gate.specs.declared.answer.Read.{Read}
 use Rattle.gate.specs.declared.answer.Read.the-variants.{Good, Free, Refused}
 
--- "Refusals and what they return": what reading refuses, then 10, 11 (house: a free record is 12 here, since it is no gate)
+-- O6, G17: what reading refuses, then 10, 11 (our reading: a free record is 12 here, since it is no gate, docs/DECISIONS.md)
 abbrev pub limitsOn : Read → ℤ → ℤ → ℕ
 limitsOn (Good c o t n) closed opened = limitsRefusal closed opened
 limitsOn Free closed opened = 12
 limitsOn (Refused number) closed opened = number
 
--- "Refusals and what they return": 7, 12, 13, 14 as reading has them, then 10, 11
+-- O6, G17: 7, 12, 13, 14 as reading has them, then 10, 11
 unfoldable pub limitsOf : List ℕ → ℤ → ℤ → ℕ
 limitsOf bytes closed opened = limitsOn (readOf bytes) closed opened
 
--- "Gate records": the limits in bytes 0–3, nothing else but the sum
+-- G18: the limits in bytes 0–3, nothing else but the sum
 unfoldable pub relimited : List ℕ → ℤ → ℤ → List ℕ
 relimited bytes closed opened = sealedOf (limitBytes closed opened ++ take 26 (drop 4 bytes))
 
--- "Refusals and what they return": no buffer is written
+-- O10, G18: no buffer is written
 unfoldable pub limitedOf : List ℕ → ℤ → ℤ → List ℕ
 limitedOf bytes closed opened = cond (eqb (limitsOf bytes closed opened) 0) (relimited bytes closed opened) bytes

@@ -1,4 +1,4 @@
--- Writing a record: the refusals in their order, and what the buffer holds afterwards ("Refusals and what they return").
+-- Writing a record: the refusals in their order, and what the buffer holds afterwards. (RULES G15, G16, O4.)
 --
 -- | Name | Meaning |
 -- |---|---|
@@ -14,7 +14,7 @@ use Rattle.gate.specs.Limit.{limitsRefusal}
 use Rattle.gate.specs.Label.{isLabel}
 use Rattle.gate.specs.Form.{recordOf}
 
--- "Refusals and what they return": writing a record checks 7, 8, 9, 10, 11
+-- O4, G15: writing a record checks 7, 8, 9, 10, 11
 unfoldable pub writeOf : List ℕ → ℤ → ℤ → List ℕ → ℕ
 writeOf buffer closed opened label =
     cond (not (eqb (length buffer) 32)) 7
@@ -22,7 +22,7 @@ writeOf buffer closed opened label =
     (cond (not (isLabel label)) 9
     (limitsRefusal closed opened)))
 
--- "Refusals and what they return": no buffer is written
+-- O10, G16: no buffer is written
 unfoldable pub writtenOf : List ℕ → ℤ → ℤ → List ℕ → List ℕ
 writtenOf buffer closed opened label =
     cond (eqb (writeOf buffer closed opened label) 0) (recordOf closed opened label) buffer

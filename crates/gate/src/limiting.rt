@@ -25,7 +25,7 @@ fn refusal(bytes: &[u8], closed: i32, opened: i32) -> u8
 }
 
 // Sets the limits of a good record, and returns 0: bytes 0-3 and the sum change, and nothing beside them. Or returns the number of
-// the first refusal that applies, and leaves the record as it was; a free record is refused with 12 (house, docs/DECISIONS.md).
+// the first refusal that applies, and leaves the record as it was; a free record is refused with 12 (our reading, docs/DECISIONS.md).
 pub fn set_limits(bytes: &mut [u8], closed: i32, opened: i32) -> u8
     ensures number { λ r. ⌜ r ≡ limitsOf (now (bytes .entry)) closed opened ⌝ }
     ensures bytes { λ r. ⌜ now (bytes .exit) ≡ limitedOf (now (bytes .entry)) closed opened ⌝ }
