@@ -1,6 +1,6 @@
 /*
  * Plays the script of the program `vectors` on the independent model, and writes what that program must write. Its output
- * is the stored `stdout` of the crate: worked out from the paper by the model, never copied from a run of the kit.
+ * is the stored `stdout` of the crate: worked out from the rules by the model, never copied from a run of the kit.
  *
  *     script < crates/vectors/stdin > crates/vectors/stdout
  *
@@ -10,62 +10,72 @@
 #include <string.h>
 
 #include "model.h"
+#include "wire.h"
 
-#define BEFORE 0xee             /* what stands in the answer buffer before a run */
+#define BEFORE 0xee             /* what stands in a buffer before a call writes it */
 
 static struct crep_chip chip;
 static uint8_t array[CREP_ARRAY + 1], tape[CREP_TRACE + 1], answers[CREP_TRACE + 4];
+static uint8_t spelt[64];
+static struct wire wire = { spelt, sizeof spelt, 0, 0 };
 static unsigned long value;     /* the number that is being read */
-static int digits, comment, recording, pin, line = 1;
+static int number, minus, comment, text, recording, line = 1;
 static size_t length, room = CREP_ARRAY, space_lent = CREP_TRACE;
+static size_t live;             /* events of a live order, which stand past the tape's end */
+static int32_t closed, opened;
+
+static void refused(unsigned n)
+{
+    if (n != 0)
+        printf("!%x", n);
+}
+
+static void noted(unsigned n)
+{
+    if (n != 0)
+        printf("'%x", n);
+}
 
 /* ---- Words on the wires ---- */
 
-static void mark(char sign, unsigned n)
+static void record_byte(unsigned byte)
 {
-    if (n != 0)
-        printf("%c%X", sign, n);
+    if (length < sizeof tape)
+        tape[length++] = (uint8_t)byte;
 }
 
+/* A live order's events stand past the tape's end while it runs, and what has no room there is not run. */
 static void event(unsigned byte)
 {
-    uint8_t answer = 0, refusal;
+    uint8_t answer = 0;
 
     if (recording) {
-        if (length < sizeof tape)
-            tape[length++] = (uint8_t)byte;
+        record_byte(byte);
         return;
     }
-    if (room > sizeof array)
+    if (length + live >= sizeof tape || room > sizeof array)
         return;
-    refusal = model_event(&chip, array, room, (uint8_t)byte, &answer);
-    mark('!', refusal);
-    mark('\'', CREP_NOTE(answer));
+    tape[length + live++] = (uint8_t)byte;
+    refused(model_event(&chip, array, room, (uint8_t)byte, &answer));
+    noted(CREP_NOTE(answer));
     line = CREP_LINE(answer);
 }
 
-static void sample(int levels)
+/* Hands what is spelt on, event by event. */
+static void play(void)
 {
-    event((unsigned)(levels | pin << 2));
+    size_t i, n = wire.len;
+
+    wire.len = 0;
+    for (i = 0; i < n; i++)
+        event(spelt[i]);
 }
 
-static void start(void)
-{
-    sample(3);
-    sample(1);
-}
-
-static void stop(void)
-{
-    sample(0);
-    sample(1);
-    sample(3);
-}
-
+/* One clock. */
 static void clock_bit(int sda)
 {
-    sample(sda << 1);
-    sample(sda << 1 | 1);
+    wire_bit(&wire, sda);
+    play();
 }
 
 static void eight(unsigned byte)
@@ -73,13 +83,14 @@ static void eight(unsigned byte)
     int k;
 
     for (k = 7; k >= 0; k--)
-        clock_bit(byte >> k & 1);
+        wire_bit(&wire, byte >> k & 1);
+    play();
 }
 
 static void send(unsigned byte)
 {
-    eight(byte);
-    clock_bit(1);
+    wire_send(&wire, (uint8_t)byte);
+    play();
 }
 
 static void receive(int more)
@@ -91,8 +102,8 @@ static void receive(int more)
         clock_bit(1);
         byte = byte * 2 + (unsigned)line;
     }
-    printf("=%02X", byte);
     clock_bit(!more);
+    printf("=%02x", byte);
 }
 
 static void burst(unsigned long n)
@@ -100,10 +111,11 @@ static void burst(unsigned long n)
     unsigned long i, taken = 0;
 
     for (i = 0; i < n; i++) {
+        live = 0;
         send((unsigned)(i % 255 + 1));
         taken += !line;
     }
-    printf("+%02lX", taken % 256);
+    printf("+%02lx", taken);
 }
 
 /* ---- Whole traces and recovery ---- */
@@ -116,39 +128,95 @@ static void run_tape(void)
     memset(answers, BEFORE, sizeof answers);
     if (room > sizeof array || length > sizeof tape || space_lent > sizeof answers)
         return;
-    mark('!', model_run(&chip, array, room, tape, length, answers, space_lent));
+    refused(model_run(&chip, array, room, tape, length, answers, space_lent));
     for (i = 0; i < sizeof answers; i++) {
         if (answers[i] == BEFORE) {
             kept++;
             continue;
         }
-        if (CREP_NOTE(answers[i]) != 0)
-            printf(" %05zX'%X", i, CREP_NOTE(answers[i]));
+        if (answers[i] / 2 != 0)
+            printf(" %05zx'%x", i, answers[i] / 2);
         low += !CREP_LINE(answers[i]);
         sum = (sum + answers[i]) % 65536;
     }
-    printf(" k%05lX l%05lX s%05lX", kept, low, sum);
+    printf(" k%05lx l%05lx s%05lx", kept, low, sum);
 }
 
 static void recover(void)
 {
-    uint8_t pulses = 0;
+    uint8_t pulses = BEFORE;
 
     if (room > sizeof array)
         return;
-    mark('!', model_recover(&chip, array, room, (uint8_t)pin, &pulses));
-    printf("=%02X", pulses);
+    refused(model_recover(&chip, array, room, (uint8_t)wire.pin, &pulses));
+    printf("=%02x", pulses);
+}
+
+/* ---- Records: what is lent of the array, with what is on the tape as the label or the standard label ---- */
+
+static void put_signed(char sign, int32_t z)
+{
+    if (z < 0)
+        printf("%c-%04lx", sign, -(long)z);
+    else
+        printf("%c%04lx", sign, (long)z);
+}
+
+static void read_record(void)
+{
+    int32_t limits[3] = { BEFORE, BEFORE, BEFORE };
+    uint8_t label_len = BEFORE, is_free = BEFORE;
+
+    refused(model_record_read(array, room, &limits[0], &limits[1], &limits[2], &label_len, &is_free));
+    put_signed('=', limits[0]);
+    put_signed(',', limits[1]);
+    put_signed(',', limits[2]);
+    printf(",%02x", label_len);
+}
+
+static void show_name(void)
+{
+    size_t first = BEFORE, len = 0;
+    uint8_t own = BEFORE;
+
+    (void)model_name(array, room, tape, length, &first, &len, &own);
+    printf("=[");
+    fwrite((own ? array : tape) + first, 1, len, stdout);
+    printf("]%c,%02zx,%02zx", own ? 'r' : 's', first, len);
+}
+
+static void on_record(int c)
+{
+    if (room > sizeof array || length > sizeof tape)
+        return;
+    switch (c) {
+    case 'W': refused(model_record_write(array, room, closed, opened, tape, length)); break;
+    case 'L': refused(model_record_limits(array, room, closed, opened)); break;
+    case 'R': read_record(); break;
+    case 'N': show_name(); break;
+    }
 }
 
 /* ---- Looking and setting ---- */
 
 static void show(void)
 {
-    printf("=%02X,%02X%02X", chip.ppen << 7 | chip.bl << 3 | chip.rpel << 2 | chip.pel << 1, chip.counter_high, chip.counter_low);
+    printf("=%02x,%02x%02x", chip.ppen << 7 | chip.bl << 3 | chip.rpel << 2 | chip.pel << 1, chip.counter_high, chip.counter_low);
     if (chip.mark)
         putchar('m');
     if (chip.busy)
         putchar('b');
+}
+
+static void show_load(void)
+{
+    unsigned loaded = 0, sum = 0, i;
+
+    for (i = 0; i < 32; i++) {
+        loaded += chip.places[i];
+        sum += chip.load[i];
+    }
+    printf("=%02x,%02x,%04x", chip.count, loaded, sum);
 }
 
 static void sector(unsigned long address)
@@ -158,36 +226,36 @@ static void sector(unsigned long address)
     putchar('=');
     for (i = 0; i < 32; i++)
         if (first + i < sizeof array)
-            printf("%02X", array[first + i]);
+            printf("%02x", array[first + i]);
 }
 
+/* Fields of a chip that no run reaches; the phase's own bytes are 0. */
 static void alter(unsigned field, uint8_t n)
 {
-    /* places 4 to 8 of the order: slave, first, second, data, sending */
-    static const uint8_t places[5] = { 1, 2, 3, 4, 9 };
-
     switch (field) {
     case 0: chip.part = n; break;
     case 1: chip.select = n; break;
     case 2: chip.bl = n; break;
     case 3: chip.counter_high = n; chip.counter_low = 0; break;
-    case 9: memset(chip.load, 0, sizeof chip.load); memset(chip.places, 0, sizeof chip.places); chip.count = n; break;
-    case 10: chip.ppen = n == 1; break;
-    case 11: chip.pel = n == 1; break;
-    default:
-        chip.place = places[field >= 4 && field <= 7 ? field - 4 : 4];
-        chip.bits = n;
-        chip.byte = 0;
-        chip.high = 0;
+    case 4: chip.phase = n / 16; chip.bits = n % 16; chip.byte = 0; chip.high = 0; break;
+    case 5: memset(chip.load, 0, sizeof chip.load); memset(chip.places, 0, sizeof chip.places); chip.count = n; break;
+    case 6: chip.busy = n == 1; break;
     }
 }
 
 static void new_chip(uint8_t n)
 {
-    mark('!', model_new(&chip, n / 16, n % 16));
+    refused(model_new(&chip, n / 16, n % 16));
     memset(array, 0xff, sizeof array);
-    pin = 0;
+    wire.pin = 0;
     room = CREP_ARRAY;
+}
+
+static int32_t limit(void)
+{
+    long size = (long)(value % 16777216);
+
+    return (int32_t)(minus ? -size : size);
 }
 
 static void order(int c)
@@ -195,9 +263,9 @@ static void order(int c)
     uint8_t n = (uint8_t)(value % 256);
 
     switch (c) {
-    case 's': start(); break;
-    case 'r': sample(2); start(); break;
-    case 'p': stop(); break;
+    case 's': wire_start(&wire); play(); break;
+    case 'r': wire_restart(&wire); play(); break;
+    case 'p': wire_stop(&wire); play(); break;
     case 'd': event(8); break;
     case 'u': event(9); break;
     case 'b': eight(n); break;
@@ -209,21 +277,27 @@ static void order(int c)
     case 't': run_tape(); break;
     case 'n': new_chip(n); break;
     case 'i': show(); break;
-    case 'm': putchar('='); if (value < sizeof array) printf("%02X", array[value]); break;
+    case 'h': show_load(); break;
+    case 'm': putchar('='); if (value < sizeof array) printf("%02x", array[value]); break;
     case 'o': sector(value); break;
     case 'w': if (value / 256 < sizeof array) array[value / 256] = n; break;
     case 'f': if (length <= sizeof tape) memset(tape + length, n, sizeof tape - length); break;
     case 'q': if (length > 0 && length - 1 < sizeof tape) tape[length - 1] = n; break;
-    case '^': pin = 1; break;
-    case '_': pin = 0; break;
+    case '^': wire.pin = 1; break;
+    case '_': wire.pin = 0; break;
     case '[': recording = 1; length = 0; break;
     case ']': recording = 0; break;
     case 'a': room = value; break;
     case 'y': length = value; break;
     case 'z': space_lent = value; break;
     case 'x': alter((unsigned)(value / 256 % 256), n); break;
+    case 'c': closed = limit(); break;
+    case 'j': opened = limit(); break;
+    default: on_record(c);
     }
 }
+
+/* ---- Reading the script ---- */
 
 static int digit_of(int c)
 {
@@ -232,32 +306,49 @@ static int digit_of(int c)
     return c >= 'A' && c <= 'F' ? c - 'A' + 10 : -1;
 }
 
+static void cleared(void)
+{
+    value = 0;
+    number = 0;
+    minus = 0;
+    live = 0;
+}
+
+/* A number that stands by itself is a byte to send; what it says stands before the space. */
+static void blank(void)
+{
+    if (!number)
+        return;
+    send((unsigned)(value % 256));
+    if (!recording)
+        putchar(line ? '-' : '+');
+    cleared();
+}
+
+/* A byte of text is put on the tape, recording or not. */
+static void letter(int c)
+{
+    if (c == '"')
+        text = 0;
+    else
+        record_byte((unsigned)c);
+}
+
 static void take(int c)
 {
-    if (comment) {
-        putchar(c);
-        comment = c != '\n';
-    } else if (c == ' ' || c == '\n') {
-        if (digits) {
-            send((unsigned)(value % 256));
-            if (!recording)
-                putchar(line ? '-' : '+');
-        }
-        putchar(c);
-        value = 0;
-        digits = 0;
-    } else if (digit_of(c) >= 0) {
-        putchar(c);
-        value = value % 16777216 * 16 + (unsigned long)digit_of(c);
-        digits = 1;
-    } else if (c == '#') {
-        putchar(c);
+    if (c == '#') {
         comment = 1;
+    } else if (c == '"') {
+        text = 1;
+        length = 0;
+    } else if (c == '-') {
+        minus = 1;
+    } else if (digit_of(c) >= 0) {
+        value = value % 16777216 * 16 + (unsigned long)digit_of(c);
+        number = 1;
     } else {
-        putchar(c);
         order(c);
-        value = 0;
-        digits = 0;
+        cleared();
     }
 }
 
@@ -268,7 +359,18 @@ int main(void)
     memset(array, 0xff, sizeof array);
     memset(tape, 3, sizeof tape);
     model_new(&chip, 0, 0);
-    while ((c = getchar()) != EOF)
-        take(c);
+    while ((c = getchar()) != EOF) {
+        int blanks = !comment && !text && (c == ' ' || c == '\n');
+
+        if (blanks)
+            blank();
+        putchar(c);
+        if (comment)
+            comment = c != '\n';
+        else if (text)
+            letter(c);
+        else if (!blanks)
+            take(c);
+    }
     return 0;
 }

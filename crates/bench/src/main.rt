@@ -1,4 +1,5 @@
 // The bench: event bytes from standard input, and what the standard chip notes of them on standard output.
+use chip::chip::Chip;
 use libc::STDIN_FILENO;
 use libc::STDOUT_FILENO;
 
@@ -7,6 +8,6 @@ fn main() {
     let mut events = [0u8; 4097];
     let n = io::read_full(STDIN_FILENO, &mut events);
     let mut page = [0u8; 32768];
-    let length = report::write_report(&events[..n], &mut page);
+    let length = report::write_report(Chip::standard(), &events[..n], &mut page);
     io::write_all(STDOUT_FILENO, &page[..length]);
 }

@@ -4,7 +4,7 @@ use mathlib.Core.Path.{_≡_, refl}
 use mathlib.Core.List.{List}
 use native.Mathlib.Omega.{arith}
 use Rattle.gate.specs.Reading.{readOf}
-use Rattle.gate.specs.Values.{givenOf}
+use Rattle.gate.specs.Answer.{givenOf}
 use Rattle.gate.specs.declared.answer.Read.{Read}
 use Rattle.gate.specs.declared.answer.Read.the-variants.{Good, Free, Refused}
 use Rattle.gate.proofs.Answers.{good-length}

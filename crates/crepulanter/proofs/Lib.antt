@@ -1,7 +1,6 @@
 pub mod Clearing
 pub mod Copies
 pub mod Labels
-pub mod OneAnswer
 pub mod OneEvent
 pub mod Refusals
 pub mod RoundTrip

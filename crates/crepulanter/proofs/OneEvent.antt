@@ -7,7 +7,8 @@ use borrow.Author.Tests.{eqb-true, eqb-false, ne-eqb}
 use lib.Dec.{leb, eqb}
 use lib.ListN.{getD}
 use Rattle.chip.specs.Event.{refusal, next, nextArray}
-use Rattle.chip.specs.Run.{ran, step, noteOf}
+use Rattle.parts.specs.Rows.{every, stepped}
+use Rattle.chip.specs.Run.{step, noteOf}
 use Rattle.chip.specs.declared.chip.Chip.{Chip}
 use Rattle.trace.specs.Bytes.{eventOf, allEvents, answerByte}
 use Rattle.trace.specs.Trace.{after, answersOf, runRefusal, unless, ranOf, runArray, runAnswers}
@@ -18,7 +19,7 @@ use Rattle.crepulanter.proofs.Refusals.{unfit-taken}
 module _ (c : Chip) (xs : List ℕ) (event : ℕ) where
   -- the refusal of the trace is that of the event
   one-refusal : runRefusal c xs (event ∷ []) 1 ≡ checked (refusal c xs) event
-  unfolding runRefusal allEvents
+  unfolding runRefusal every
   one-refusal = rw (and-true (leb event 9))
 
   pub one-number : ranOf c xs (event ∷ []) (1 ∷ []) .refusal ≡ checked (refusal c xs) event
@@ -28,11 +29,11 @@ module _ (c : Chip) (xs : List ℕ) (event : ℕ) where
   -- taken, it leaves the event's chip, array and answer byte
   module _ (taken : checked (refusal c xs) event ≡ 0) where
     pub one-chip : ranOf c xs (event ∷ []) (1 ∷ []) .chip ≡ next (eventOf event) c xs .chip
-    unfolding ranOf unless after ran step
+    unfolding ranOf unless after stepped step
     one-chip = rw (one-refusal ∙ taken)
 
     pub one-array : runArray c xs (event ∷ []) (1 ∷ []) ≡ nextArray (eventOf event) c xs
-    unfolding runArray unless after ran step
+    unfolding runArray unless after stepped step
     one-array = rw (one-refusal ∙ taken)
 
     pub one-answer : runAnswers c xs (event ∷ []) (1 ∷ []) ≡ answerByte (next (eventOf event) c xs .chip .line) (next (eventOf event) c xs .note) ∷ []
@@ -54,7 +55,7 @@ pub run-event :
     (b xs : List ℕ) (event r : ℕ) (b′ xs′ told : List ℕ)
     → RunSays b xs (event ∷ []) (1 ∷ []) r b′ xs′ told
     → EventSays b xs event r b′ xs′ (getD told 0 0)
-unfolding runNumber eventRefusal
+unfolding runNumber eventRefusal unless
 run-event b xs event r b′ xs′ told s = go (bytesFit b) refl (eqb (checked (refusal c xs) event) 0) refl
   where
     c : Chip

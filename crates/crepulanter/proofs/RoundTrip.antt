@@ -1,20 +1,21 @@
 -- Packing and unpacking undo each other. A chip that is packed and unpacked is the chip, whatever its numbers, where its load has
 -- its 32 places and bytes, as every chip of the code has; and bytes that fit come back with what their phase does not carry cleared.
 -- Assumes nothing.
-use Prim.Native.Nat.{ℕ, _+_, _<_, _≤_}
+use Prim.Native.Nat.{ℕ}
 use mathlib.Core.Bool.{Bool, true, false}
 use mathlib.Core.Path.{_≡_, refl, sym, ap, ap₂, _∙_}
 use mathlib.Core.List.{List, [], _∷_, map}
 use native.Mathlib.Nat.{div-add-mod'}
 use native.Mathlib.Omega.{arith}
 use lib.Dec.{leb}
-use lib.ListN.{length, getD, take, drop, length-map, length-append, length-drop}
-use lib.Seq.{length-take-le, take-all, take-at, drop-at, getD-take, getD-drop, ext-getD}
+use lib.ListN.{length, getD, take, length-map, length-append}
+use lib.Seq.{take-all, take-at, drop-at}
 use Rattle.parts.specs.declared.phase.Phase.{Phase}
 use Rattle.parts.specs.declared.phase.Phase.the-variants.{Standby, Slave, First, Second, Data, AckWrite, AckRead, AckFirst, AckByte, Sending, Waiting, Next}
 use Rattle.chip.specs.declared.chip.Chip.{Chip}
-use Rattle.crepulanter.proofs.Rows.{length-row, row-at}
-use Rattle.crepulanter.specs.State.{row, flagOf, flagByte, phaseOf, phaseBytes, allFlags, headFits, bytesFit, chipOf, headOf, bytesOf}
+use Rattle.crepulanter.specs.At as at
+use Rattle.crepulanter.specs.State.{row, flagOf, flagByte, phaseOf, phaseBytes, allFlags, bytesFit, chipOf, headBytes, bytesOf}
+use Rattle.crepulanter.proofs.Rows.{row-part}
 
 -- a phase from its four bytes
 pub phase-back :
@@ -68,15 +69,6 @@ unfolding allFlags
 flags-fit [] = refl
 flags-fit (on ∷ l) = rw (flag-fits on, flags-fit l)
 
--- a row is a part of the bytes that reach its end
-pub row-part : (n at : ℕ) (b : List ℕ) → at + n ≤ length b → row n at b ≡ take n (drop at b)
-row-part n at b h =
-    let long : length (take n (drop at b)) ≡ n = length-take-le n (drop at b) (simp length-drop (omega arith)) in
-    ext-getD 0 (row n at b) (take n (drop at b)) (length-row n at b ∙ sym long)
-    (λ k below.
-    let inside : k < n = rw (length-row n at b) at below in
-    sym (row-at n at b k inside) ∙ sym (getD-drop at b k 0) ∙ sym (getD-take n (drop at b) k 0 inside))
-
 -- a chip whose load has its 32 places and bytes
 module _ (c : Chip) (places : length (c .load .places) ≡ 32) (bytes : length (c .load .bytes) ≡ 32) where
   flags : List ℕ
@@ -86,24 +78,24 @@ module _ (c : Chip) (places : length (c .load .places) ≡ 32) (bytes : length (
   unfolding flags
   long = length-map (c .load .places) flagByte ∙ places
 
-  pub packed-length : length (bytesOf c) ≡ 81
-  unfolding bytesOf headOf flags
+  pub packed-length : length (bytesOf c) ≡ at.size
+  unfolding bytesOf headBytes flags
   packed-length = rw (length-append flags (c .load .bytes), long, bytes)
 
-  packed-places : row 32 17 (bytesOf c) ≡ flags
-  unfolding bytesOf headOf flags
-  packed-places = row-part 32 17 (bytesOf c) (omega (arith, packed-length)) ∙ take-at flags (c .load .bytes) 32 long
+  packed-places : row 32 at.places (bytesOf c) ≡ flags
+  unfolding bytesOf headBytes flags
+  packed-places = row-part 32 at.places (bytesOf c) (omega (arith, packed-length)) ∙ take-at flags (c .load .bytes) 32 long
 
-  packed-load : row 32 49 (bytesOf c) ≡ c .load .bytes
-  unfolding bytesOf headOf flags
+  packed-load : row 32 at.load (bytesOf c) ≡ c .load .bytes
+  unfolding bytesOf headBytes flags
   packed-load =
-      row-part 32 49 (bytesOf c) (omega (arith, packed-length))
+      row-part 32 at.load (bytesOf c) (omega (arith, packed-length))
       ∙ ap (λ (l : List ℕ). take 32 l) (drop-at flags (c .load .bytes) 32 long)
       ∙ take-all 32 (c .load .bytes) (omega arith)
 
   -- packed and unpacked it is itself
   pub chip-back : chipOf (bytesOf c) ≡ c
-  unfolding chipOf bytesOf headOf flags
+  unfolding chipOf bytesOf headBytes flags
   chip-back =
       λ i.
       record {
@@ -132,6 +124,6 @@ module _ (c : Chip) (places : length (c .load .places) ≡ 32) (bytes : length (
 
   -- and its bytes fit
   pub packed-fit : bytesFit (bytesOf c) ≡ true
-  unfolding bytesFit headFits bytesOf headOf flags
+  unfolding bytesFit allFlags bytesOf headBytes flags
   packed-fit =
       simp (flag-fits, phase-fits, packed-places, flags-fit)

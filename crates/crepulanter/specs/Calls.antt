@@ -3,10 +3,10 @@
 -- | Name | Meaning |
 -- |---|---|
 -- | `unfit` | the refusal of bytes that no chip has |
--- | `eventRefusal` | the refusal of one event |
+-- | `checked`, `eventRefusal` | the refusal of one event, given that of its chip and array, and by the bytes |
 -- | `runNumber` | the refusal of a trace |
+-- | `pinOf` | a pin level |
 -- | `recoverNumber` | the refusal of a recovery |
--- | `taken` | what a call leaves that was taken, or what was there before one that was refused |
 -- | `NewSays`, `EventSays`, `RunSays`, `RecoverSays` | the whole answer of each function |
 use Prim.Native.Nat.{ℕ}
 use mathlib.Core.Bool.{Bool, cond, not}
@@ -18,16 +18,12 @@ use Rattle.chip.specs.Chip.{made}
 use Rattle.chip.specs.Event.{refusal, next, nextArray}
 use Rattle.recovery.specs.Recovery.{recoveryAnswer, recoveryArray}
 use Rattle.trace.specs.Bytes.{eventOf, answerByte}
-use Rattle.trace.specs.Trace.{ranOf, runArray, runAnswers}
+use Rattle.trace.specs.Trace.{unless, ranOf, runArray, runAnswers}
 use Rattle.crepulanter.specs.State.{bytesFit, chipOf, bytesOf}
 
 -- a phase above 11 or a flag that is neither 0 nor 1 is refusal 2, after 1
 unfoldable pub unfit : List ℕ → ℕ
 unfit xs = cond (eqb (length xs) 16384) 2 1
-
--- what is left where a call is taken, and where it is refused
-abbrev pub taken {ℓ} : {A : Type ℓ} → ℕ → A → A → A
-taken number done kept = cond (eqb number 0) done kept
 
 -- one event checks 1, 2 and then 6
 abbrev pub checked : ℕ → ℕ → ℕ
@@ -55,24 +51,24 @@ pub record NewSays (part select : ℕ) (r : ℕ) (b′ : List ℕ) : Type 0 wher
 -- one event; a refusal leaves chip and array and answers 1: line high, note 0
 pub record EventSays (b xs : List ℕ) (event : ℕ) (r : ℕ) (b′ xs′ : List ℕ) (answer : ℕ) : Type 0 where
   pub returned : r ≡ eventRefusal b xs event
-  pub state : b′ ≡ taken (eventRefusal b xs event) (bytesOf (next (eventOf event) (chipOf b) xs .chip)) b
-  pub array : xs′ ≡ taken (eventRefusal b xs event) (nextArray (eventOf event) (chipOf b) xs) xs
+  pub state : b′ ≡ unless (eventRefusal b xs event) b (bytesOf (next (eventOf event) (chipOf b) xs .chip))
+  pub array : xs′ ≡ unless (eventRefusal b xs event) xs (nextArray (eventOf event) (chipOf b) xs)
   pub answered :
       answer
-      ≡ taken (eventRefusal b xs event)
-      (answerByte (next (eventOf event) (chipOf b) xs .chip .line) (next (eventOf event) (chipOf b) xs .note))
+      ≡ unless (eventRefusal b xs event)
       1
+      (answerByte (next (eventOf event) (chipOf b) xs .chip .line) (next (eventOf event) (chipOf b) xs .note))
 
 -- a trace; a refusal leaves chip, array and answers
 pub record RunSays (b xs trace old : List ℕ) (r : ℕ) (b′ xs′ told : List ℕ) : Type 0 where
   pub returned : r ≡ runNumber b xs trace old
-  pub state : b′ ≡ taken (runNumber b xs trace old) (bytesOf (ranOf (chipOf b) xs trace old .chip)) b
+  pub state : b′ ≡ unless (runNumber b xs trace old) b (bytesOf (ranOf (chipOf b) xs trace old .chip))
   pub array : xs′ ≡ cond (bytesFit b) (runArray (chipOf b) xs trace old) xs
   pub answers : told ≡ cond (bytesFit b) (runAnswers (chipOf b) xs trace old) old
 
 -- recovery; a refusal leaves chip and array and reports 0 pulses
 pub record RecoverSays (b xs : List ℕ) (pin : ℕ) (r : ℕ) (b′ xs′ : List ℕ) (pulses : ℕ) : Type 0 where
   pub returned : r ≡ recoverNumber b xs pin
-  pub state : b′ ≡ taken (recoverNumber b xs pin) (bytesOf (recoveryAnswer (pinOf pin) (chipOf b) xs .chip)) b
+  pub state : b′ ≡ unless (recoverNumber b xs pin) b (bytesOf (recoveryAnswer (pinOf pin) (chipOf b) xs .chip))
   pub array : xs′ ≡ cond (bytesFit b) (recoveryArray (pinOf pin) (chipOf b) xs) xs
   pub pulsed : pulses ≡ cond (bytesFit b) (recoveryAnswer (pinOf pin) (chipOf b) xs .pulses) 0

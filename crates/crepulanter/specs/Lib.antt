@@ -1,3 +1,4 @@
+pub mod At
 pub mod State
 pub mod Calls
 pub mod Records

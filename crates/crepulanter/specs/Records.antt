@@ -1,4 +1,5 @@
--- What reading a record and naming a gate answer to C; writing answers as the gate's own `writeOf` and `writtenOf` say.
+-- What reading a record and naming a gate answer to C. Writing answers as the gate's own `writeOf` and `writtenOf` say, and new limits as
+-- its `limitsOf` and `limitedOf`.
 --
 -- | Name | Meaning |
 -- |---|---|
@@ -8,10 +9,9 @@ use Prim.Native.Nat.{ℕ}
 use mathlib.Core.Path.{_≡_}
 use mathlib.Core.List.{List}
 use lib.IntN.{ℤ}
-use Rattle.gate.specs.Naming.{placeOf as shownAt}
-use Rattle.gate.specs.Outcome.{saysFree}
+use Rattle.gate.specs.Answer.{givenOf, saysFree}
+use Rattle.gate.specs.Naming.{spanOf}
 use Rattle.gate.specs.Reading.{readOf}
-use Rattle.gate.specs.Values.{givenOf}
 use Rattle.crepulanter.specs.State.{flagByte}
 
 pub record ReadSays (bytes : List ℕ) (r : ℕ) (closed opened travel : ℤ) (label free : ℕ) : Type 0 where
@@ -24,6 +24,6 @@ pub record ReadSays (bytes : List ℕ) (r : ℕ) (closed opened travel : ℤ) (l
 
 pub record NameSays (bytes standard : List ℕ) (r start count own : ℕ) : Type 0 where
   pub returned : r ≡ 0
-  pub first : start ≡ shownAt bytes standard .start
-  pub counted : count ≡ shownAt bytes standard .len
-  pub within : own ≡ flagByte (shownAt bytes standard .own)
+  pub first : start ≡ spanOf bytes standard .start
+  pub counted : count ≡ spanOf bytes standard .len
+  pub within : own ≡ flagByte (spanOf bytes standard .own)

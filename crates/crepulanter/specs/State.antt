@@ -1,17 +1,17 @@
--- What the 81 bytes of a chip mean, and which bytes a chip has.
+-- What the bytes of a chip mean, and which bytes a chip has; where each stands is in At.antt.
 --
 -- | Name | Meaning |
 -- |---|---|
--- | `row` | the n bytes from a place on |
+-- | `row` | the n bytes from an offset on |
 -- | `flagOf`, `flagByte` | the flag of a byte, the byte of a flag |
 -- | `phaseOf` | the phase of a number, with those of three bytes that it carries |
 -- | `phaseBytes` | the number of a phase, its bits, byte and high; 0 for what it does not carry |
 -- | `allFlags` | every byte is 0 or 1 |
--- | `headFits` | the phase is one of the twelve, each flag before the load is 0 or 1 |
+-- | `headFlags` | the flags before the load's places |
 -- | `bytesFit` | the phase is one of the twelve, each flag is 0 or 1 |
--- | `chipOf` | the chip that 81 bytes stand for |
--- | `headOf` | the 17 bytes of a chip before its load |
--- | `bytesOf` | the 81 bytes of a chip |
+-- | `chipOf` | the chip that bytes stand for |
+-- | `headBytes` | the bytes of a chip before its load's places |
+-- | `bytesOf` | the bytes of a chip |
 use Prim.Native.Nat.{ℕ, zero, suc, _+_, _*_, _/_, _%_}
 use mathlib.Core.Bool.{Bool, true, cond, _&&_}
 use mathlib.Core.List.{List, [], _∷_, _++_, map}
@@ -21,11 +21,12 @@ use Rattle.parts.specs.Phase.{weight}
 use Rattle.parts.specs.declared.phase.Phase.{Phase}
 use Rattle.parts.specs.declared.phase.Phase.the-variants.{Standby, Slave, First, Second, Data, AckWrite, AckRead, AckFirst, AckByte, Sending, Waiting, Next}
 use Rattle.chip.specs.declared.chip.Chip.{Chip}
+use Rattle.crepulanter.specs.At as at
 
--- the n bytes from `at` on: 32 from 17 say which places of the sector are loaded, 32 from 49 are the load
+-- the n bytes from an offset on
 unfoldable pub row : ℕ → ℕ → List ℕ → List ℕ
-row zero at b = []
-row (suc n) at b = getD b at 0 ∷ row n (suc at) b
+row zero from b = []
+row (suc n) from b = getD b from 0 ∷ row n (suc from) b
 
 -- a flag is 1 where it is set, 0 where it is not
 abbrev pub flagOf : ℕ → Bool
@@ -70,39 +71,51 @@ unfoldable pub allFlags : List ℕ → Bool
 allFlags [] = true
 allFlags (byte ∷ bytes) = leb byte 1 && allFlags bytes
 
--- PPEN, RPEL, PEL, the mark, busy, the last SCL, the last line; and a phase of 0-11
-unfoldable pub headFits : List ℕ → Bool
-headFits b =
-    leb (getD b 2 0) 1
-    && leb (getD b 4 0) 1
-    && leb (getD b 5 0) 1
-    && leb (getD b 8 0) 1
-    && leb (getD b 9 0) 1
-    && leb (getD b 10 0) 1
-    && leb (getD b 11 0) 1
-    && leb (getD b 12 0) 11
+-- PPEN, RPEL, PEL, the mark, busy, the last SCL, the last line
+abbrev pub headFlags : List ℕ → List ℕ
+headFlags b =
+    getD b at.ppen 0
+    ∷ getD b at.rpel 0
+    ∷ getD b at.pel 0
+    ∷ getD b at.mark 0
+    ∷ getD b at.busy 0
+    ∷ getD b at.scl 0
+    ∷ getD b at.line 0
+    ∷ []
 
+-- a phase of 0-11, and flags that are flags
 unfoldable pub bytesFit : List ℕ → Bool
-bytesFit b = headFits b && allFlags (row 32 17 b)
+bytesFit b = leb (getD b at.phase 0) 11 && (allFlags (headFlags b) && allFlags (row 32 at.places b))
 
 unfoldable pub chipOf : List ℕ → Chip
 chipOf b =
     record {
-      part = getD b 0 0;
-      select = getD b 1 0;
-      register = record { ppen = flagOf (getD b 2 0); bl = getD b 3 0; rpel = flagOf (getD b 4 0); pel = flagOf (getD b 5 0) };
-      counter = getD b 6 0 * 256 + getD b 7 0;
-      mark = flagOf (getD b 8 0);
-      busy = flagOf (getD b 9 0);
-      scl = flagOf (getD b 10 0);
-      line = flagOf (getD b 11 0);
-      phase = phaseOf (getD b 12 0) (getD b 13 0) (getD b 14 0) (getD b 15 0);
-      load = record { bytes = row 32 49 b; places = map flagOf (row 32 17 b); count = getD b 16 0 };
+      part = getD b at.part 0;
+      select = getD b at.select 0;
+      register =
+          record {
+            ppen = flagOf (getD b at.ppen 0);
+            bl = getD b at.bl 0;
+            rpel = flagOf (getD b at.rpel 0);
+            pel = flagOf (getD b at.pel 0);
+          };
+      counter = getD b at.counterHigh 0 * 256 + getD b at.counterLow 0;
+      mark = flagOf (getD b at.mark 0);
+      busy = flagOf (getD b at.busy 0);
+      scl = flagOf (getD b at.scl 0);
+      line = flagOf (getD b at.line 0);
+      phase = phaseOf (getD b at.phase 0) (getD b at.bits 0) (getD b at.byte 0) (getD b at.high 0);
+      load =
+          record {
+            bytes = row 32 at.load b;
+            places = map flagOf (row 32 at.places b);
+            count = getD b at.count 0;
+          };
     }
 
 -- the bytes before the load, in the order of the C struct
-unfoldable pub headOf : Chip → List ℕ
-headOf c =
+unfoldable pub headBytes : Chip → List ℕ
+headBytes c =
     c .part
     ∷ c .select
     ∷ flagByte (c .register .ppen)
@@ -122,5 +135,6 @@ headOf c =
     ∷ c .load .count
     ∷ []
 
+-- and then the load's places and bytes
 unfoldable pub bytesOf : Chip → List ℕ
-bytesOf c = headOf c ++ map flagByte (c .load .places) ++ c .load .bytes
+bytesOf c = headBytes c ++ (map flagByte (c .load .places) ++ c .load .bytes)

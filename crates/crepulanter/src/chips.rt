@@ -1,6 +1,7 @@
 // The four functions of a chip.
 ghost use mathlib.Core.Path.{_≡_};
 ghost use Rattle.crepulanter.specs.Calls.{unfit, NewSays, EventSays, RunSays, RecoverSays};
+use crate::at;
 use crate::packing::pack;
 use crate::unpacking::bytes_fit;
 use crate::unpacking::unpack;
@@ -12,7 +13,7 @@ use trace::run;
 fn unfit_number(array: &[u8]) -> u8
     ensures { λ r. ⌜ r ≡ unfit (now (array .entry)) ⌝ }
 {
-    if array.len() == 16384 {
+    if array.len() == Chip::BYTES {
         return 2;
     }
     1
@@ -20,7 +21,7 @@ fn unfit_number(array: &[u8]) -> u8
 
 // Makes a new chip; refused with 3, the standard chip.
 #[no_mangle]
-pub extern "C" fn crep_new(state: &mut [u8; 81], part: u8, select: u8) -> u8
+pub extern "C" fn crep_new(state: &mut [u8; at::SIZE], part: u8, select: u8) -> u8
     ensures { λ r. ⌜ NewSays part select r (now (state .exit)) ⌝ }
 {
     let made = Chip::new(part, select);
@@ -32,7 +33,7 @@ pub extern "C" fn crep_new(state: &mut [u8; 81], part: u8, select: u8) -> u8
 // Runs a trace. Refused with 1, 2, 4, 5 or 6 it changes nothing and writes no answer.
 #[no_mangle]
 pub extern "C" fn crep_run(
-    state: &mut [u8; 81],
+    state: &mut [u8; at::SIZE],
     array: &mut [u8],
     trace: &[u8],
     answers: &mut [u8],
@@ -56,7 +57,7 @@ pub extern "C" fn crep_run(
 // Runs one event, as a trace of one. Refused with 1, 2 or 6 it changes nothing, and answers that the line is high, with note 0.
 #[no_mangle]
 pub extern "C" fn crep_event(
-    state: &mut [u8; 81],
+    state: &mut [u8; at::SIZE],
     array: &mut [u8],
     event: u8,
     answer: &mut u8,
@@ -73,7 +74,7 @@ pub extern "C" fn crep_event(
 // Frees the bus. Refused with 1 or 2 it changes nothing and reports 0 pulses.
 #[no_mangle]
 pub extern "C" fn crep_recover(
-    state: &mut [u8; 81],
+    state: &mut [u8; at::SIZE],
     array: &mut [u8],
     pin: u8,
     pulses: &mut u8,

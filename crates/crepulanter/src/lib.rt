@@ -1,6 +1,16 @@
 // The kit for C: a chip is 81 bytes that the caller keeps, and each exported function answers for every byte and length that
 // it can be lent. include/crepulanter.h is the other side of this interface.
+mod at;
 mod chips;
 mod packing;
 mod records;
 mod unpacking;
+
+pub use chips::crep_event;
+pub use chips::crep_new;
+pub use chips::crep_recover;
+pub use chips::crep_run;
+pub use records::crep_name;
+pub use records::crep_record_limits;
+pub use records::crep_record_read;
+pub use records::crep_record_write;

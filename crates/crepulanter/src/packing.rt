@@ -1,7 +1,10 @@
 // From a chip to its bytes.
 ghost use mathlib.Core.Path.{_≡_};
 ghost use mathlib.Core.List.{_++_, map};
-ghost use Rattle.crepulanter.specs.State.{flagByte, phaseBytes, headOf, bytesOf};
+ghost use Prim.Native.Nat.{_+_, _≤_};
+ghost use lib.ListN.{length, take, drop};
+ghost use Rattle.crepulanter.specs.State.{flagByte, phaseBytes, headBytes, bytesOf};
+use crate::at;
 use chip::chip::Chip;
 use parts::phase::Phase;
 
@@ -32,9 +35,9 @@ fn phase_bytes(phase: Phase) -> [u8; 4]
     }
 }
 
-// The 17 bytes before the load.
-fn head_bytes(chip: Chip) -> [u8; 17]
-    ensures { λ r. ⌜ r ≡ headOf chip ⌝ }
+// The bytes before the load's places.
+fn head_bytes(chip: Chip) -> [u8; at::PLACES]
+    ensures { λ r. ⌜ r ≡ headBytes chip ⌝ }
 {
     let register = chip.register;
     let load = chip.load;
@@ -62,47 +65,42 @@ fn head_bytes(chip: Chip) -> [u8; 17]
 }
 
 // A byte for each flag.
-pub(crate) fn flag_bytes(flags: [bool; 32]) -> [u8; 32]
+fn flag_bytes(flags: [bool; Chip::SECTOR]) -> [u8; Chip::SECTOR]
     ensures { λ r. ⌜ r ≡ map flagByte flags ⌝ }
 {
-    let mut bytes = [0; 32];
+    let mut bytes = [0; Chip::SECTOR];
     let mut k: usize = 0;
-    while k < 32 {
+    while k < Chip::SECTOR {
         bytes[k] = flag_byte(flags[k]);
         k = k + 1;
     }
     bytes
 }
 
-// The three rows one after the other.
-fn joined(head: [u8; 17], places: [u8; 32], load: [u8; 32]) -> [u8; 81]
-    ensures { λ r. ⌜ r ≡ head ++ places ++ load ⌝ }
+// Copies a row of bytes into those of a chip, from an offset on.
+fn copy_at(state: &mut [u8], offset: usize, row: &[u8])
+    requires { ⌜ offset + length (now row) ≤ length (now state) ⌝ }
+    ensures { λ _. ⌜ now (state .exit) ≡ take offset (now (state .entry)) ++ now (row .entry) ++ drop (offset + length (now (row .entry))) (now (state .entry)) ⌝ }
 {
-    let mut bytes = [0; 81];
     let mut i: usize = 0;
-    while i < 17 {
-        bytes[i] = head[i];
+    while i < row.len() {
+        state[offset + i] = row[i];
         i = i + 1;
     }
-    let mut j: usize = 0;
-    while j < 32 {
-        bytes[17 + j] = places[j];
-        j = j + 1;
-    }
-    let mut k: usize = 0;
-    while k < 32 {
-        bytes[49 + k] = load[k];
-        k = k + 1;
-    }
-    bytes
 }
 
 // The bytes of a chip.
-pub(crate) fn pack(chip: Chip) -> [u8; 81]
+pub(crate) fn pack(chip: Chip) -> [u8; at::SIZE]
     ensures { λ r. ⌜ r ≡ bytesOf chip ⌝ }
 {
     let load = chip.load;
     let places = load.places;
     let bytes = load.bytes;
-    joined(head_bytes(chip), flag_bytes(places), bytes)
+    let head = head_bytes(chip);
+    let loaded = flag_bytes(places);
+    let mut state = [0; at::SIZE];
+    copy_at(&mut state, at::PART, &head);
+    copy_at(&mut state, at::PLACES, &loaded);
+    copy_at(&mut state, at::LOAD, &bytes);
+    state
 }

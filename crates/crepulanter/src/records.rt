@@ -1,12 +1,14 @@
-// The three functions of a gate's record.
+// The four functions of a gate's record.
 ghost use mathlib.Core.Path.{_≡_};
-ghost use Rattle.gate.specs.Outcome.{saysFree};
+ghost use Rattle.gate.specs.Answer.{saysFree};
+ghost use Rattle.gate.specs.Limiting.{limitsOf, limitedOf};
 ghost use Rattle.gate.specs.Writing.{writeOf, writtenOf};
 ghost use Rattle.crepulanter.specs.Records.{ReadSays, NameSays};
 use crate::packing::flag_byte;
 use gate::answer::Read;
 use gate::read;
-use gate::shown_place;
+use gate::set_limits;
+use gate::shown_span;
 use gate::write;
 
 // A limit, widened.
@@ -47,6 +49,14 @@ pub extern "C" fn crep_record_write(bytes: &mut [u8], closed: i32, opened: i32, 
     write(bytes, closed, opened, label)
 }
 
+// Puts new limits into a good record, and leaves its label. Refused with 7, 12 (a free record too), 13, 14, 10 or 11 it writes nothing.
+#[no_mangle]
+pub extern "C" fn crep_record_limits(bytes: &mut [u8], closed: i32, opened: i32) -> u8
+    ensures { λ r. ⌜ (r ≡ limitsOf (now (bytes .entry)) closed opened) × (now (bytes .exit) ≡ limitedOf (now (bytes .entry)) closed opened) ⌝ }
+{
+    set_limits(bytes, closed, opened)
+}
+
 // Reads a record: its limits, its travel, its label's length, and whether it is free. Refused with 7, 12, 13 or 14 all are 0.
 #[no_mangle]
 pub extern "C" fn crep_record_read(
@@ -80,7 +90,7 @@ pub extern "C" fn crep_name(
 ) -> u8
     ensures { λ r. ⌜ NameSays (now (bytes .entry)) (now (standard .entry)) r (now (start .exit)) (now (count .exit)) (now (own .exit)) ⌝ }
 {
-    let shown = shown_place(bytes, standard);
+    let shown = shown_span(bytes, standard);
     *start = shown.start;
     *count = shown.len;
     *own = flag_byte(shown.own);

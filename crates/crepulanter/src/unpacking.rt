@@ -1,8 +1,10 @@
 // From the bytes of a chip to the chip, and whether they are bytes of a chip at all.
 ghost use mathlib.Core.Path.{_≡_};
 ghost use mathlib.Core.List.{map};
-ghost use Prim.Native.Nat.{_+_, _*_};
-ghost use Rattle.crepulanter.specs.State.{row, flagOf, phaseOf, allFlags, headFits, bytesFit, chipOf};
+ghost use Prim.Native.Nat.{_+_, _*_, _≤_};
+ghost use Rattle.crepulanter.specs.State.{row, flagOf, phaseOf, allFlags, bytesFit, chipOf};
+ghost use Rattle.crepulanter.specs.At.{size};
+use crate::at;
 use chip::chip::Chip;
 use parts::load::Load;
 use parts::phase::Phase;
@@ -39,95 +41,97 @@ fn counter_of(high: u8, low: u8) -> u16
     high as u16 * 256 + low as u16
 }
 
-// Which places of the sector are loaded.
-fn places_of(state: &[u8; 81]) -> [bool; 32]
-    ensures { λ r. ⌜ r ≡ map flagOf (row 32 17 (now (state .entry))) ⌝ }
+// The row of a byte for each place that stands at an offset.
+fn row_at(state: &[u8; at::SIZE], offset: usize) -> [u8; Chip::SECTOR]
+    requires { ⌜ offset + 32 ≤ size ⌝ }
+    ensures { λ r. ⌜ r ≡ row 32 offset (now (state .entry)) ⌝ }
 {
-    let mut places = [false; 32];
+    let mut bytes = [0; Chip::SECTOR];
     let mut k: usize = 0;
-    while k < 32 {
-        places[k] = state[17 + k] == 1;
-        k = k + 1;
-    }
-    places
-}
-
-// The loaded bytes.
-fn load_of(state: &[u8; 81]) -> [u8; 32]
-    ensures { λ r. ⌜ r ≡ row 32 49 (now (state .entry)) ⌝ }
-{
-    let mut bytes = [0; 32];
-    let mut k: usize = 0;
-    while k < 32 {
-        bytes[k] = state[49 + k];
+    while k < Chip::SECTOR {
+        bytes[k] = state[offset + k];
         k = k + 1;
     }
     bytes
 }
 
+// A flag for each byte.
+fn flags_of(bytes: [u8; Chip::SECTOR]) -> [bool; Chip::SECTOR]
+    ensures { λ r. ⌜ r ≡ map flagOf bytes ⌝ }
+{
+    let mut flags = [false; Chip::SECTOR];
+    let mut k: usize = 0;
+    while k < Chip::SECTOR {
+        flags[k] = bytes[k] == 1;
+        k = k + 1;
+    }
+    flags
+}
+
 // The chip that the bytes stand for.
-pub(crate) fn unpack(state: &[u8; 81]) -> Chip
+pub(crate) fn unpack(state: &[u8; at::SIZE]) -> Chip
     ensures { λ r. ⌜ r ≡ chipOf (now (state .entry)) ⌝ }
 {
-    let phase = phase_of(state[12], state[13], state[14], state[15]);
-    let places = places_of(state);
-    let bytes = load_of(state);
-    let counter = counter_of(state[6], state[7]);
+    let phase = phase_of(
+        state[at::PHASE],
+        state[at::BITS],
+        state[at::BYTE],
+        state[at::HIGH],
+    );
+    let places = flags_of(row_at(state, at::PLACES));
+    let bytes = row_at(state, at::LOAD);
+    let counter = counter_of(state[at::COUNTER_HIGH], state[at::COUNTER_LOW]);
     Chip {
-        part: state[0],
-        select: state[1],
+        part: state[at::PART],
+        select: state[at::SELECT],
         register: Register {
-            ppen: state[2] == 1,
-            bl: state[3],
-            rpel: state[4] == 1,
-            pel: state[5] == 1,
+            ppen: state[at::PPEN] == 1,
+            bl: state[at::BL],
+            rpel: state[at::RPEL] == 1,
+            pel: state[at::PEL] == 1,
         },
         counter: counter,
-        mark: state[8] == 1,
-        busy: state[9] == 1,
-        scl: state[10] == 1,
-        line: state[11] == 1,
+        mark: state[at::MARK] == 1,
+        busy: state[at::BUSY] == 1,
+        scl: state[at::SCL] == 1,
+        line: state[at::LINE] == 1,
         phase: phase,
         load: Load {
             bytes: bytes,
             places: places,
-            count: state[16],
+            count: state[at::COUNT],
         },
     }
 }
 
-// Whether each of the 32 bytes that say what is loaded is 0 or 1.
-fn places_fit(state: &[u8; 81]) -> bool
-    ensures { λ r. ⌜ r ≡ allFlags (row 32 17 (now (state .entry))) ⌝ }
+// Whether each byte is 0 or 1.
+fn all_flags(bytes: &[u8]) -> bool
+    ensures { λ r. ⌜ r ≡ allFlags (now (bytes .entry)) ⌝ }
 {
     let mut fit = true;
     let mut k: usize = 0;
-    while k < 32 {
-        fit = fit & (state[17 + k] <= 1);
+    while k < bytes.len() {
+        fit = fit & (bytes[k] <= 1);
         k = k + 1;
     }
     fit
 }
 
-// Whether the phase is one of the twelve and each flag before it is 0 or 1.
-fn head_fits(state: &[u8; 81]) -> bool
-    ensures { λ r. ⌜ r ≡ headFits (now (state .entry)) ⌝ }
-{
-    (state[2] <= 1)
-        & (state[4] <= 1)
-        & (state[5] <= 1)
-        & (state[8] <= 1)
-        & (state[9] <= 1)
-        & (state[10] <= 1)
-        & (state[11] <= 1)
-        & (state[12] <= 11)
-}
-
 // Whether the phase is one of the twelve and each flag is 0 or 1.
-pub(crate) fn bytes_fit(state: &[u8; 81]) -> bool
+pub(crate) fn bytes_fit(state: &[u8; at::SIZE]) -> bool
     ensures { λ r. ⌜ r ≡ bytesFit (now (state .entry)) ⌝ }
 {
-    let head = head_fits(state);
-    let places = places_fit(state);
-    head & places
+    let flags = [
+        state[at::PPEN],
+        state[at::RPEL],
+        state[at::PEL],
+        state[at::MARK],
+        state[at::BUSY],
+        state[at::SCL],
+        state[at::LINE],
+    ];
+    let places = row_at(state, at::PLACES);
+    let head = all_flags(&flags);
+    let load = all_flags(&places);
+    (state[at::PHASE] <= 11) & (head & load)
 }

@@ -1,12 +1,13 @@
 -- One answer for one input, for every public operation of every crate. Each line of the list has an operation's contract, as the toolchain reads
 -- it off the source, and the outcome that it names, in the words of its `ensures`: the answer, then one place a parameter, with the bytes that a
--- `&mut` holds afterwards. That the contract says this outcome and no other is checked at each; that two outcomes are then equal is one lemma.
+-- `&mut` holds afterwards; a contract that is a record of parts is compared part by part. Two outcomes are then equal, by one lemma or by the parts.
 -- Assumes nothing.
 use Prim.Native.Nat.{ℕ}
-use mathlib.Core.List.{List, [], _∷_}
+use mathlib.Core.List.{List, [], _∷_, _++_}
 use mathlib.Core.Path.{_≡_, sym, _∙_}
 use contract.Lifetimes.{Lfts}
 use denote.Ref.{now}
+use lib.ListN.{length, drop}
 use Rattle.parts.specs.Load.{noLoad, loaded, stored}
 use Rattle.parts.specs.Locks.{locked}
 use Rattle.parts.specs.Phase.{weight, received, bitOf, phaseFits, phasePulls, risen}
@@ -31,6 +32,9 @@ use Rattle.gate.specs.Reading.{readOf}
 use Rattle.gate.specs.Answer.{givenOf}
 use Rattle.gate.specs.Writing.{writeOf, writtenOf}
 use Rattle.gate.proofs as gate
+use Rattle.report.specs.Report.{reportOf}
+use Rattle.report.proofs as report
+use Rattle.crepulanter.proofs as crepulanter
 use Rattle.promises.specs.OneAnswer.{Contract, Input, Result, Left, Allows, Outcome, outcome, OneAnswer, whole}
 
 -- a public operation, and that it has one answer for one input
@@ -53,6 +57,14 @@ alone {left} p i = (p i, left)
 -- the answer and the bytes of the second parameter are named
 with-array : {A U : Type 0} {r d : A} {left : Unit {0} × (List ℕ × U)} {ys : List ℕ} → (r ≡ d) × (left .1 .0 ≡ ys) → _≡_ {A = A × (Unit {0} × (List ℕ × U))} (r, left) (d, (tt, (ys, left .1 .1)))
 with-array {left} p i = (p .0 i, (tt, (p .1 i, left .1 .1)))
+
+-- two that are named by one definition are equal
+same : {A : Type 0} {x y d : A} → x ≡ d → y ≡ d → x ≡ y
+same p q = p ∙ sym q
+
+-- a contract whose parts each name what they allow: part by part, two outcomes are equal
+by-parts : (c : Contract) → OneAnswer c → Operation
+by-parts c equal = record { contract = c; one-answer = equal }
 
 -- the name shown is a slice: what the caller has of it is its bytes, and where they lie is the answer of `shown_span`
 abbrev shownName : Contract
@@ -193,4 +205,32 @@ operations =
     ∷ one shownName
     (λ κs (bytes, (standard, end)). (nameOf (now bytes) (now standard), (tt, (tt, tt))))
     (λ κs input r left. alone)
+    -- report::write_report
+    ∷ one (whole 2 report.write_report.Kinds.ps report.write_report.Kinds.r report.write_report.Reads.Post)
+    (λ κs (chip, (bytes, (page, end))). (length (reportOf chip (now bytes)), (tt, (tt, (reportOf chip (now bytes) ++ drop (length (reportOf chip (now bytes))) (now page), tt)))))
+    (λ κs input r left p i. (p .0 i, (tt, (tt, (p .1 i, tt)))))
+    -- crep_new
+    ∷ by-parts (whole 1 crepulanter.crep_new.Kinds.ps crepulanter.crep_new.Kinds.r crepulanter.crep_new.Reads.Post)
+    (λ κs input r r′ left left′ p q i. (same (p .returned) (q .returned) i, (same (p .state) (q .state) i, (tt, (tt, tt)))))
+    -- crep_event
+    ∷ by-parts (whole 3 crepulanter.crep_event.Kinds.ps crepulanter.crep_event.Kinds.r crepulanter.crep_event.Reads.Post)
+    (λ κs input r r′ left left′ p q i. (same (p .returned) (q .returned) i, (same (p .state) (q .state) i, (same (p .array) (q .array) i, (tt, (same (p .answered) (q .answered) i, tt))))))
+    -- crep_run
+    ∷ by-parts (whole 4 crepulanter.crep_run.Kinds.ps crepulanter.crep_run.Kinds.r crepulanter.crep_run.Reads.Post)
+    (λ κs input r r′ left left′ p q i. (same (p .returned) (q .returned) i, (same (p .state) (q .state) i, (same (p .array) (q .array) i, (tt, (same (p .answers) (q .answers) i, tt))))))
+    -- crep_recover
+    ∷ by-parts (whole 3 crepulanter.crep_recover.Kinds.ps crepulanter.crep_recover.Kinds.r crepulanter.crep_recover.Reads.Post)
+    (λ κs input r r′ left left′ p q i. (same (p .returned) (q .returned) i, (same (p .state) (q .state) i, (same (p .array) (q .array) i, (tt, (same (p .pulsed) (q .pulsed) i, tt))))))
+    -- crep_record_write
+    ∷ by-parts (whole 2 crepulanter.crep_record_write.Kinds.ps crepulanter.crep_record_write.Kinds.r crepulanter.crep_record_write.Reads.Post)
+    (λ κs input r r′ left left′ p q i. (same (p .0) (q .0) i, (same (p .1) (q .1) i, (tt, (tt, (tt, tt))))))
+    -- crep_record_limits
+    ∷ by-parts (whole 1 crepulanter.crep_record_limits.Kinds.ps crepulanter.crep_record_limits.Kinds.r crepulanter.crep_record_limits.Reads.Post)
+    (λ κs input r r′ left left′ p q i. (same (p .0) (q .0) i, (same (p .1) (q .1) i, (tt, (tt, tt)))))
+    -- crep_record_read
+    ∷ by-parts (whole 6 crepulanter.crep_record_read.Kinds.ps crepulanter.crep_record_read.Kinds.r crepulanter.crep_record_read.Reads.Post)
+    (λ κs input r r′ left left′ p q i. (same (p .returned) (q .returned) i, (tt, (same (p .shut) (q .shut) i, (same (p .wide) (q .wide) i, (same (p .between) (q .between) i, (same (p .labelled) (q .labelled) i, (same (p .unused) (q .unused) i, tt))))))))
+    -- crep_name
+    ∷ by-parts (whole 5 crepulanter.crep_name.Kinds.ps crepulanter.crep_name.Kinds.r crepulanter.crep_name.Reads.Post)
+    (λ κs input r r′ left left′ p q i. (same (p .returned) (q .returned) i, (tt, (tt, (same (p .first) (q .first) i, (same (p .counted) (q .counted) i, (same (p .within) (q .within) i, tt)))))))
     ∷ []

@@ -9,7 +9,7 @@ use borrow.Author.Tests.{lt-ltb, le-ltb}
 use lib.Dec.{eqb, ltb}
 use lib.ListN.{length, take, drop, set, getD, length-append, length-set, drop-of-length-le}
 use lib.Seq.{sets, sets-eq, drop-cons}
-use Rattle.report.specs.Text.{put, glyph, digits, width, numeral, lineOf, noteIn, eventLine, linesFrom, refusedWord, refusedText}
+use Rattle.report.specs.Text.{put, glyph, digits, width, numeral, noteLine, noteIn, eventLine, linesFrom, refusedWord, refusedText}
 
 -- one text after the other is their sum
 pub put-append : (page : List ℕ) (at : ℕ) (s t : List ℕ) → put page at (s ++ t) ≡ put (put page at s) (at + length s) t
@@ -83,8 +83,8 @@ module _ (page : List ℕ) (at : ℕ) (s : List ℕ) (i : ℕ) where
 
 -- a line by its parts: how long it is, and how it is put
 module _ (position note : ℕ) where
-  pub line-length : length (lineOf position note) ≡ length (numeral position) + (length (numeral note) + 2)
-  unfolding lineOf
+  pub line-length : length (noteLine position note) ≡ length (numeral position) + (length (numeral note) + 2)
+  unfolding noteLine
   line-length =
       let tail : length (0x20 ∷ (numeral note ++ (0x0a ∷ []))) ≡ length (numeral note) + 2 = simp length-append (omega arith) in
       length-append (numeral position) (0x20 ∷ (numeral note ++ (0x0a ∷ []))) ∙ ap (λ (k : ℕ). length (numeral position) + k) tail
@@ -94,14 +94,14 @@ module _ (position note : ℕ) where
       → set (put (set (put page at (numeral position)) (at + length (numeral position)) 0x20) (at + length (numeral position) + 1) (numeral note))
       (at + length (numeral position) + 1 + length (numeral note))
       0x0a
-      ≡ put page at (lineOf position note)
-  unfolding lineOf put
+      ≡ put page at (noteLine position note)
+  unfolding noteLine put
   line-put page at =
       let space : ℕ = at + length (numeral position) in
       sym (put-append page at (numeral position) (0x20 ∷ (numeral note ++ (0x0a ∷ [])))
       ∙ put-append (set (put page at (numeral position)) space 0x20) (space + 1) (numeral note) (0x0a ∷ []))
 
-  pub line-short : note < 10 → length (lineOf position note) ≤ 7
+  pub line-short : note < 10 → length (noteLine position note) ≤ 7
   line-short h =
       let one : length (numeral note) ≡ 1 = ap (λ (l : List ℕ). length l) (numeral-1 note h) in
       omega (arith, line-length, numeral-short position)
@@ -113,7 +113,7 @@ event-by false s h = h
 
 pub event-short : (position answer : ℕ) → length (eventLine position answer) ≤ 7
 unfolding eventLine
-event-short position answer = event-by (eqb (noteIn answer) 0) (lineOf position (noteIn answer)) (line-short position (noteIn answer) (omega arith))
+event-short position answer = event-by (eqb (noteIn answer) 0) (noteLine position (noteIn answer)) (line-short position (noteIn answer) (omega arith))
 
 pub lines-short : (position : ℕ) (answers : List ℕ) → length (linesFrom position answers) ≤ 7 * length answers
 unfolding linesFrom

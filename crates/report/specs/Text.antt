@@ -1,12 +1,18 @@
 -- Text as a list of bytes, and where it stands on a page.
---     put page at text      the page with the text from `at` on
---     glyph                 the last decimal digit of a number
---     digits k n            the last k decimal digits of a number, the most significant first
---     width, numeral        how many digits a number below 10,000 takes; its decimal numeral
---     lineOf                position and note, one space between them
---     eventLine             the line of an event, none where the note is 0
---     linesFrom             the lines of a row of answers, the first at this position
---     heading, countText, refusedText
+--
+-- | Name | Meaning |
+-- |---|---|
+-- | `put page at text` | the page with the text from `at` on |
+-- | `glyph` | the last decimal digit of a number |
+-- | `digits k n` | the last k decimal digits of a number, the most significant first |
+-- | `width`, `numeral` | how many digits a number below 10,000 takes; its decimal numeral |
+-- | `noteLine` | position and note, one space between them |
+-- | `noteIn` | the note that an answer byte holds |
+-- | `eventLine` | the line of an event, none where the note is 0 |
+-- | `linesFrom` | the lines of a row of answers, the first at this position |
+-- | `heading` | the first line |
+-- | `eventsWord`, `countText` | the word after the count; the last line |
+-- | `refusedWord`, `refusedText` | the word before a number; the line of a refusal |
 use Prim.Native.Nat.{ℕ, zero, suc, _+_, _*_, _/_, _%_}
 use mathlib.Core.Bool.{cond}
 use mathlib.Core.List.{List, [], _∷_, _++_}
@@ -32,8 +38,8 @@ unfoldable pub numeral : ℕ → List ℕ
 numeral n = digits (width n) n
 
 -- position, one space, note; every line ends with a newline
-unfoldable pub lineOf : ℕ → ℕ → List ℕ
-lineOf position note = numeral position ++ (0x20 ∷ (numeral note ++ (0x0a ∷ [])))
+unfoldable pub noteLine : ℕ → ℕ → List ℕ
+noteLine position note = numeral position ++ (0x20 ∷ (numeral note ++ (0x0a ∷ [])))
 
 -- bits 1-3 of an answer byte
 abbrev pub noteIn : ℕ → ℕ
@@ -41,14 +47,14 @@ noteIn answer = answer / 2 % 8
 
 -- a line per event with a nonzero note
 unfoldable pub eventLine : ℕ → ℕ → List ℕ
-eventLine position answer = cond (eqb (noteIn answer) 0) [] (lineOf position (noteIn answer))
+eventLine position answer = cond (eqb (noteIn answer) 0) [] (noteLine position (noteIn answer))
 
 -- position from 0
 unfoldable pub linesFrom : ℕ → List ℕ → List ℕ
 linesFrom position [] = []
 linesFrom position (answer ∷ answers) = eventLine position answer ++ linesFrom (position + 1) answers
 
--- `event note`
+-- `event note`, the heading
 abbrev pub heading : List ℕ
 heading = 0x65 ∷ 0x76 ∷ 0x65 ∷ 0x6e ∷ 0x74 ∷ 0x20 ∷ 0x6e ∷ 0x6f ∷ 0x74 ∷ 0x65 ∷ 0x0a ∷ []
 

@@ -1,11 +1,10 @@
-// What the bench prints for event bytes: the standard chip is run on them, and the text is written on a lent page. A line takes at
-// most 7 bytes, so that the text of 4,096 events, at most 28,695 bytes, always has room on a page of 32,768.
+// What the bench prints: a chip is run on event bytes from an array of FFh, and the text is written on a lent page. A line takes at
+// most 7 bytes, so that every text is at most 28,695 bytes long and has room on a page of 32,768.
 ghost use mathlib.Core.Path.{_≡_};
 ghost use mathlib.Core.List.{_++_};
 ghost use Prim.Native.Nat.{_+_, _≤_, _<_};
 ghost use lib.ListN.{length, take, drop};
 ghost use Rattle.report.specs.Text.{put, glyph, numeral, eventLine, linesFrom, refusedText};
-ghost use Rattle.io.specs.Counts.{Counts};
 ghost use Rattle.report.specs.Report.{blank, reportOf, answerText};
 use chip::chip::Chip;
 
@@ -122,22 +121,21 @@ fn put_refused(page: &mut [u8; 32768], number: u8) -> usize
 }
 
 // An array of FFh.
-fn blank() -> [u8; 16384]
+fn blank() -> [u8; Chip::BYTES]
     ensures { λ r. ⌜ r ≡ blank ⌝ }
 {
-    [255; 16384]
+    [255; Chip::BYTES]
 }
 
-// Writes what the bench prints for event bytes on a page, and answers its length. The rest of the page stays.
-pub fn write_report(trace: &[u8], page: &mut [u8; 32768]) -> usize
-    ensures { λ r. ⌜ r ≡ length (reportOf (now (trace .entry))) ⌝ }
-    ensures { λ r. ⌜ now (page .exit) ≡ reportOf (now (trace .entry)) ++ drop (length (reportOf (now (trace .entry)))) (now (page .entry)) ⌝ }
-    ensures { λ r. ⌜ Counts r (now (page .exit)) ⌝ }
+// Writes what the bench prints for a chip and event bytes on a page, and answers its length. The rest of the page stays.
+pub fn write_report(chip: Chip, trace: &[u8], page: &mut [u8; 32768]) -> usize
+    ensures { λ r. ⌜ r ≡ length (reportOf chip (now (trace .entry))) ⌝ }
+    ensures { λ r. ⌜ now (page .exit) ≡ reportOf chip (now (trace .entry)) ++ drop (length (reportOf chip (now (trace .entry)))) (now (page .entry)) ⌝ }
 {
     if trace.len() <= 4096 {
         let mut array = blank();
         let mut answers = [0u8; 4096];
-        let ran = trace::run(Chip::standard(), &mut array, trace, &mut answers);
+        let ran = trace::run(chip, &mut array, trace, &mut answers);
         if ran.refusal == 0 {
             return put_answers(page, &answers, trace.len());
         }

@@ -1,162 +1,125 @@
-// The desk: a chip, the protect pin, and what the order that is being read has so far. Events go to the chip, or are recorded on a tape.
+// The desk: a chip, the protect pin, and what the order that is being read has so far.
+use crate::count;
 use crate::say;
+use crate::wires;
+use crate::wires::Tape;
 use chip::chip::Chip;
-use parts::phase::bit_of;
-use parts::phase::with_bit;
 
-pub struct Desk {
+// A chip's array, and one byte beside it.
+pub(crate) type Array = [u8; 16385];
+
+pub(crate) struct Desk {
     pub chip: Chip,
     pub pin: bool,
+    // the line after the last event, and after the last sixteen rises of the clock
     pub line: bool,
-    // what is being read: a number and how many digits it has, or a comment
+    pub heard: u16,
+    // what is being read: a number with its sign, a comment, or text that goes on the tape
     pub value: u32,
-    pub digits: u8,
+    pub number: bool,
+    pub minus: bool,
     pub comment: bool,
-    // events go to the tape; how many are on it
+    pub text: bool,
+    // events stay on the tape; how many are on it
     pub recording: bool,
     pub length: usize,
     // how much of the array and of the answer buffer is lent
     pub room: usize,
     pub space: usize,
+    // the limits of the next record
+    pub closed: i32,
+    pub opened: i32,
 }
 
 // The desk as a script finds it.
-pub fn fresh() -> Desk {
+pub(crate) fn fresh() -> Desk {
     Desk {
         chip: Chip::standard(),
         pin: false,
         line: true,
+        heard: 0,
         value: 0,
-        digits: 0,
+        number: false,
+        minus: false,
         comment: false,
+        text: false,
         recording: false,
         length: 0,
-        room: 16384,
+        room: Chip::BYTES,
         space: 65536,
+        closed: 0,
+        opened: 0,
     }
 }
 
-// One event byte on the chip: its refusal and its note are written where there is one.
-fn ran(d: Desk, array: &mut [u8], event: u8) -> Desk {
+// What was heard, with the line after one event more: samples with the clock high count.
+fn hear(heard: u16, event: u8, line: bool) -> u16 {
+    if event % 2 == 0 {
+        return heard;
+    }
+    if line {
+        return heard % 32768 * 2 + 1;
+    }
+    heard % 32768 * 2
+}
+
+// One event on the chip: its refusal and its note are written where there is one.
+fn ran(desk: Desk, array: &mut [u8], event: u8) -> Desk {
+    let mut d = desk;
     let room = d.room;
     if room <= array.len() {
         let answer = d.chip.event(&mut array[..room], trace::event_of(event));
         say::unless_none(b'!', answer.refusal);
         say::unless_none(b'\'', answer.note);
         let chip = answer.chip;
-        return Desk {
-            chip: chip,
-            line: answer.line,
-            ..d
-        };
+        d.chip = chip;
+        d.line = answer.line;
+        d.heard = hear(d.heard, event, answer.line);
+        return d;
     }
     d
 }
 
-// One event byte on the tape.
-fn recorded(d: Desk, tape: &mut [u8], event: u8) -> Desk {
-    let at = d.length;
-    if at < tape.len() {
-        tape[at] = event;
-        return Desk {
-            length: at + 1,
-            ..d
-        };
+// The events of a tape from a position on.
+fn played(desk: Desk, array: &mut Array, tape: &[u8], from: usize) -> Desk {
+    let mut d = desk;
+    let mut i = from;
+    while i < tape.len() {
+        d = ran(d, array, tape[i]);
+        i = i + 1;
     }
     d
 }
 
-pub fn event(d: Desk, array: &mut [u8; 16385], tape: &mut [u8; 65537], event: u8) -> Desk {
+// An order's events, put on the tape up to a new end: they stay there, or the chip has them and the tape is as long as it was.
+pub(crate) fn moved(desk: Desk, array: &mut Array, tape: &[u8], end: usize) -> Desk {
+    let mut d = desk;
     if d.recording {
-        return recorded(d, tape, event);
+        d.length = end;
+        return d;
     }
-    ran(d, array, event)
-}
-
-// A sample: bit 0 the clock, bit 1 the data, with the pin as it stands.
-fn sample(d: Desk, array: &mut [u8; 16385], tape: &mut [u8; 65537], levels: u8) -> Desk {
-    if d.pin {
-        return event(d, array, tape, levels % 4 + 4);
-    }
-    event(d, array, tape, levels % 4)
-}
-
-// From lines that are let go: a start.
-pub fn start(d: Desk, array: &mut [u8; 16385], tape: &mut [u8; 65537]) -> Desk {
-    let high = sample(d, array, tape, 3);
-    sample(high, array, tape, 1)
-}
-
-// After a ninth clock: a start.
-pub fn restart(d: Desk, array: &mut [u8; 16385], tape: &mut [u8; 65537]) -> Desk {
-    let low = sample(d, array, tape, 2);
-    start(low, array, tape)
-}
-
-pub fn stop(d: Desk, array: &mut [u8; 16385], tape: &mut [u8; 65537]) -> Desk {
-    let low = sample(d, array, tape, 0);
-    let high = sample(low, array, tape, 1);
-    sample(high, array, tape, 3)
-}
-
-// One clock, low then high.
-fn clock(d: Desk, array: &mut [u8; 16385], tape: &mut [u8; 65537], sda: bool) -> Desk {
-    if sda {
-        let low = sample(d, array, tape, 2);
-        return sample(low, array, tape, 3);
-    }
-    let low = sample(d, array, tape, 0);
-    sample(low, array, tape, 1)
-}
-
-// Eight clocks with the bits of a byte.
-pub fn bits(desk: Desk, array: &mut [u8; 16385], tape: &mut [u8; 65537], byte: u8) -> Desk {
-    let mut d = desk;
-    let mut k: u8 = 0;
-    while k < 8 {
-        d = clock(d, array, tape, bit_of(byte, 7 - k));
-        k = k + 1;
+    if end <= tape.len() {
+        return played(d, array, &tape[..end], d.length);
     }
     d
 }
 
-// A byte in nine clocks, let go in the ninth.
-pub fn send(d: Desk, array: &mut [u8; 16385], tape: &mut [u8; 65537], byte: u8) -> Desk {
-    let eight = bits(d, array, tape, byte);
-    clock(eight, array, tape, true)
-}
-
-// Reads a byte in nine clocks and writes it; in the ninth the line is pulled where more follow.
-pub fn receive(desk: Desk, array: &mut [u8; 16385], tape: &mut [u8; 65537], more: bool) -> Desk {
-    let mut d = desk;
-    let mut byte: u8 = 0;
-    let mut k: u8 = 0;
-    while k < 8 {
-        d = clock(d, array, tape, true);
-        byte = with_bit(byte, d.line);
-        k = k + 1;
-    }
-    say::say(b'=');
-    say::byte(byte);
-    clock(d, array, tape, !more)
-}
-
-// One more where the line is low.
-fn one_more(n: usize, line: bool) -> usize {
-    if line { n } else { n % 65535 + 1 }
+// Sends a byte in nine clocks, let go in the ninth.
+pub(crate) fn sent(d: Desk, array: &mut Array, tape: &mut Tape, byte: u8) -> Desk {
+    let end = wires::nine(tape, d.length, d.pin, byte, true);
+    moved(d, array, tape, end)
 }
 
 // Sends n bytes 01h, 02h, .. and writes how many of them were acknowledged.
-pub fn burst(desk: Desk, array: &mut [u8; 16385], tape: &mut [u8; 65537], n: u32) -> Desk {
+pub(crate) fn burst(desk: Desk, array: &mut Array, tape: &mut Tape, n: u32) -> Desk {
     let mut d = desk;
-    let mut taken: usize = 0;
+    let mut taken: u64 = 0;
     let mut i: u32 = 0;
     while i < n {
-        d = send(d, array, tape, (i % 255 + 1) as u8);
-        taken = one_more(taken, d.line);
+        d = sent(d, array, tape, (i % 255 + 1) as u8);
+        taken = count::one_more(taken, !d.line);
         i = i + 1;
     }
-    say::say(b'+');
-    say::byte((taken % 256) as u8);
+    say::number(b'+', taken, 2);
     d
 }

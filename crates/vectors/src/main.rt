@@ -1,19 +1,24 @@
-// The vectors: a script on standard input drives chips, traces and recovery, and each order is written again with what came of it.
+// The vectors: a script on standard input drives chips, traces, recovery and records, and each order is written again with what
+// came of it.
+mod alter;
+mod count;
 mod desk;
 mod orders;
+mod records;
 mod say;
 mod tape;
+mod wires;
 
 use libc::STDIN_FILENO;
 
-// Every byte of a script, with an array of FFh and one byte beside it, and a tape that is one event longer than a trace may be.
+// Every byte of a script, with an array of FFh and a tape of samples with both wires high.
 fn play(script: &[u8]) {
-    let mut array = [255u8; 16385];
-    let mut film = [3u8; 65537];
+    let mut array = [0xffu8; 16385];
+    let mut tape = [3u8; 65537];
     let mut d = desk::fresh();
     let mut i: usize = 0;
     while i < script.len() {
-        d = orders::took(d, &mut array, &mut film, script[i]);
+        d = orders::took(d, &mut array, &mut tape, script[i]);
         i = i + 1;
     }
 }

@@ -1,256 +1,251 @@
 // The orders of a script: each is a letter, with a number in front where it wants one.
+use crate::alter;
+use crate::count;
 use crate::desk;
+use crate::desk::Array;
 use crate::desk::Desk;
+use crate::records;
 use crate::say;
 use crate::tape;
+use crate::wires;
+use crate::wires::Tape;
 use chip::chip::Chip;
-use parts::load::Load;
-use parts::phase::Phase;
 
 // The register byte, the counter, and `m` for the mark, `b` for busy.
-fn show(chip: Chip) {
+fn show(d: Desk) {
+    let chip = d.chip;
     let register = chip.register;
-    say::say(b'=');
-    say::byte(register.byte());
-    say::say(b',');
-    say::word(chip.counter);
+    say::number(b'=', register.byte() as u64, 2);
+    say::number(b',', chip.counter as u64, 4);
     say::flag(chip.mark, b'm');
     say::flag(chip.busy, b'b');
 }
 
-// The chip with its bits received or its bit being sent at a number.
-fn placed(chip: Chip, field: u8, n: u8) -> Chip {
-    let phase = match field {
-        4 => Phase::Slave { bits: n, got: 0 },
-        5 => Phase::First { bits: n, got: 0 },
-        6 => Phase::Second {
-            high: 0,
-            bits: n,
-            got: 0,
-        },
-        7 => Phase::Data { bits: n, got: 0 },
-        _ => Phase::Sending { bit: n, byte: 0 },
-    };
-    Chip {
-        phase: phase,
-        ..chip
+// The count of the load, how many places are loaded, and the sum of its bytes.
+fn show_load(d: Desk) {
+    let chip = d.chip;
+    let load = chip.load;
+    let bytes = load.bytes;
+    let places = load.places;
+    let mut loaded: u64 = 0;
+    let mut sum: u64 = 0;
+    let mut i: usize = 0;
+    while i < Chip::SECTOR {
+        loaded = count::one_more(loaded, places[i]);
+        sum = count::added(sum, bytes[i]);
+        i = i + 1;
     }
-}
-
-// The chip with a field at a number: 0 part, 1 select, 2 BL, 3 counter (times 256), 4 to 8 the phase, 9 count, 10 PPEN, 11 PEL.
-fn altered(chip: Chip, field: u8, n: u8) -> Chip {
-    let mut c = chip;
-    match field {
-        0 => {
-            c.part = n;
-        }
-        1 => {
-            c.select = n;
-        }
-        2 => {
-            c.register.bl = n;
-        }
-        3 => {
-            let counter = n as u16 * 256;
-            c.counter = counter;
-        }
-        9 => {
-            let mut load = Load::none();
-            load.count = n;
-            c.load = load;
-        }
-        10 => {
-            let on = n == 1;
-            c.register.ppen = on;
-        }
-        11 => {
-            let on = n == 1;
-            c.register.pel = on;
-        }
-        _ => {
-            return placed(c, field, n);
-        }
-    }
-    c
+    say::number(b'=', load.count as u64, 2);
+    say::number(b',', loaded, 2);
+    say::number(b',', sum, 4);
 }
 
 // A new chip, part in the high digit and select in the low one, and an array of FFh.
-fn new_chip(d: Desk, array: &mut [u8; 16385], n: u8) -> Desk {
+fn new_chip(desk: Desk, array: &mut Array, n: u8) -> Desk {
+    let mut d = desk;
     let made = Chip::new(n / 16, n % 16);
     say::unless_none(b'!', made.refusal);
-    tape::fill(array, 255);
+    tape::fill(array, 0xff);
     let chip = made.chip;
-    Desk {
-        chip: chip,
-        pin: false,
-        room: 16384,
-        ..d
-    }
+    d.chip = chip;
+    d.pin = false;
+    d.room = Chip::BYTES;
+    d
 }
 
-// One event, and the line after it.
-fn raw(d: Desk, array: &mut [u8; 16385], film: &mut [u8; 65537], event: u8) -> Desk {
-    let e = desk::event(d, array, film, event);
-    say::say(b':');
-    if e.line {
-        say::say(b'1');
-    } else {
-        say::say(b'0');
-    }
-    e
-}
-
-// Orders on the wires.
-fn wire(d: Desk, array: &mut [u8; 16385], film: &mut [u8; 65537], order: u8) -> Desk {
-    let n = (d.value % 256) as u8;
+// What an order on the wires heard: the line after one event, or the byte that was read.
+fn tell(d: Desk, order: u8) {
     match order {
-        b's' => desk::start(d, array, film),
-        b'r' => desk::restart(d, array, film),
-        b'p' => desk::stop(d, array, film),
-        b'd' => desk::event(d, array, film, 8),
-        b'u' => desk::event(d, array, film, 9),
-        b'b' => desk::bits(d, array, film, n),
-        b'e' => raw(d, array, film, n),
-        b'g' => desk::receive(d, array, film, true),
-        b'l' => desk::receive(d, array, film, false),
-        b'k' => desk::burst(d, array, film, d.value),
+        b'e' => say::number(b':', d.line as u64, 1),
+        b'g' | b'l' => say::number(b'=', d.heard as u64 / 2 % 256, 2),
+        _ => (),
+    }
+}
+
+// Orders that run many events or begin anew.
+fn run(d: Desk, array: &mut Array, tape: &mut Tape, order: u8) -> Desk {
+    let value = d.value;
+    match order {
+        b'k' => desk::burst(d, array, tape, value),
         b'v' => tape::recover(d, array),
-        b't' => tape::run_tape(d, array, film),
+        b't' => tape::run_tape(d, array, tape),
+        b'n' => new_chip(d, array, (value % 256) as u8),
         _ => d,
     }
 }
 
-// Orders that set the desk or look at it.
-fn set(d: Desk, array: &mut [u8; 16385], film: &mut [u8; 65537], order: u8) -> Desk {
+// Orders that look at the chip and the array, or set bytes.
+fn look(d: Desk, array: &mut Array, tape: &mut Tape, order: u8) {
     let n = (d.value % 256) as u8;
-    let high = d.value / 256;
     let value = d.value as usize;
-    let chip = d.chip;
     match order {
-        b'n' => {
-            return new_chip(d, array, n);
+        b'i' => show(d),
+        b'h' => show_load(d),
+        b'm' => tape::peek(array, value),
+        b'o' => tape::sector(array, value),
+        b'w' => tape::poke(array, value / 256, n),
+        b'f' => tape::pad(tape, d.length, n),
+        b'q' => tape::poke_last(tape, d.length, n),
+        _ => records::of_order(d, array, tape, order),
+    }
+}
+
+// A number with its sign.
+fn signed(n: u32, minus: bool) -> i32 {
+    let size = (n % 16777216) as i32;
+    if minus { 0 - size } else { size }
+}
+
+// Orders that set a number of the desk or a field of the chip.
+fn set(desk: Desk, order: u8) -> Desk {
+    let mut d = desk;
+    let value = d.value as usize;
+    match order {
+        b'a' => {
+            d.room = value;
+            d
         }
-        b'i' => show(chip),
-        b'm' => {
-            say::say(b'=');
-            tape::peek(array, value);
+        b'y' => {
+            d.length = value;
+            d
         }
-        b'o' => {
-            say::say(b'=');
-            tape::sector(array, value);
+        b'z' => {
+            d.space = value;
+            d
         }
-        b'w' => tape::poke(array, high as usize, n),
-        b'f' => tape::pad(film, d.length, n),
-        b'q' => {
-            if 0 < d.length {
-                tape::poke(film, d.length - 1, n);
-            }
+        b'c' => {
+            d.closed = signed(d.value, d.minus);
+            d
         }
-        _ => (),
+        b'j' => {
+            d.opened = signed(d.value, d.minus);
+            d
+        }
+        b'x' => {
+            let chip = alter::altered(d.chip, (value / 256 % 256) as u8, (value % 256) as u8);
+            d.chip = chip;
+            d
+        }
+        _ => d,
+    }
+}
+
+// Orders that turn a switch of the desk.
+fn switch(desk: Desk, order: u8) -> Desk {
+    let mut d = desk;
+    match order {
+        b'^' => {
+            d.pin = true;
+            d
+        }
+        b'_' => {
+            d.pin = false;
+            d
+        }
+        b'[' => {
+            d.recording = true;
+            d.length = 0;
+            d
+        }
+        b']' => {
+            d.recording = false;
+            d
+        }
+        _ => set(d, order),
+    }
+}
+
+// One order: what it puts on the wires, what it runs, what it shows, what it sets.
+fn acted(d: Desk, array: &mut Array, tape: &mut Tape, order: u8) -> Desk {
+    let n = (d.value % 256) as u8;
+    let end = wires::of_order(tape, d.length, d.pin, order, n);
+    let wired = desk::moved(d, array, tape, end);
+    tell(wired, order);
+    let done = run(wired, array, tape, order);
+    look(done, array, tape, order);
+    switch(done, order)
+}
+
+// The number that is being read, with one digit more.
+fn digit(desk: Desk, n: u8) -> Desk {
+    let mut d = desk;
+    d.value = d.value % 16777216 * 16 + n as u32;
+    d.number = true;
+    d
+}
+
+// The number is used.
+fn cleared(desk: Desk) -> Desk {
+    let mut d = desk;
+    d.value = 0;
+    d.number = false;
+    d.minus = false;
+    d
+}
+
+// A number that stands by itself is a byte to send; `+` says that it was acknowledged.
+fn space(d: Desk, array: &mut Array, tape: &mut Tape) -> Desk {
+    if d.number {
+        let sent = desk::sent(d, array, tape, (d.value % 256) as u8);
+        say::flag(!sent.recording & sent.line, b'-');
+        say::flag(!sent.recording & !sent.line, b'+');
+        return cleared(sent);
     }
     d
 }
 
-// Orders that set a number or a switch of the desk.
-fn switch(d: Desk, order: u8) -> Desk {
-    let n = (d.value % 256) as u8;
-    let high = (d.value / 256 % 256) as u8;
-    let value = d.value as usize;
-    match order {
-        b'^' => Desk { pin: true, ..d },
-        b'_' => Desk { pin: false, ..d },
-        b'[' => Desk {
-            recording: true,
-            length: 0,
-            ..d
-        },
-        b']' => Desk {
-            recording: false,
-            ..d
-        },
-        b'a' => Desk { room: value, ..d },
-        b'y' => Desk { length: value, ..d },
-        b'z' => Desk { space: value, ..d },
-        b'x' => {
-            let chip = altered(d.chip, high, n);
-            Desk { chip: chip, ..d }
-        }
-        _ => d,
-    }
-}
-
-// The number that is being read, with one digit more.
-fn digit(d: Desk, n: u8) -> Desk {
-    Desk {
-        value: d.value % 16777216 * 16 + n as u32,
-        digits: 1,
-        ..d
-    }
-}
-
-// A number that stands by itself is a byte to send; `+` says that it was acknowledged.
-fn space(d: Desk, array: &mut [u8; 16385], film: &mut [u8; 65537]) -> Desk {
-    if d.digits == 0 {
+// One byte of text, which goes on the tape, up to the quotation mark.
+fn letter(desk: Desk, tape: &mut Tape, byte: u8) -> Desk {
+    let mut d = desk;
+    if byte == b'"' {
+        d.text = false;
         return d;
     }
-    let n = (d.value % 256) as u8;
-    let sent = desk::send(d, array, film, n);
-    if !sent.recording {
-        if sent.line {
-            say::say(b'-');
-        } else {
-            say::say(b'+');
-        }
-    }
-    cleared(sent)
+    d.length = wires::put(tape, d.length, byte);
+    d
 }
 
-// The number is used.
-fn cleared(d: Desk) -> Desk {
-    Desk {
-        value: 0,
-        digits: 0,
-        ..d
-    }
-}
-
-// One byte of the script that is no comment.
-fn order(d: Desk, array: &mut [u8; 16385], film: &mut [u8; 65537], byte: u8) -> Desk {
+// One byte of an order: a digit, a sign, what begins a comment or a text, or the letter itself.
+fn order(desk: Desk, array: &mut Array, tape: &mut Tape, byte: u8) -> Desk {
+    let mut d = desk;
     match byte {
-        b' ' | b'\n' => {
-            let sent = space(d, array, film);
-            say::say(byte);
-            sent
-        }
         b'#' => {
-            say::say(byte);
-            Desk { comment: true, ..d }
+            d.comment = true;
+            d
         }
-        48..=57 => {
-            say::say(byte);
-            digit(d, byte - 48)
+        b'"' => {
+            d.text = true;
+            d.length = 0;
+            d
         }
-        65..=70 => {
-            say::say(byte);
-            digit(d, byte - 55)
+        b'-' => {
+            d.minus = true;
+            d
         }
-        _ => {
-            say::say(byte);
-            let on_wires = wire(d, array, film, byte);
-            let looked = set(on_wires, array, film, byte);
-            cleared(switch(looked, byte))
-        }
+        48..=57 => digit(d, byte - 48),
+        65..=70 => digit(d, byte - 55),
+        _ => cleared(acted(d, array, tape, byte)),
     }
 }
 
-// One byte of the script. A comment runs to the end of its line.
-pub fn took(d: Desk, array: &mut [u8; 16385], film: &mut [u8; 65537], byte: u8) -> Desk {
+// One byte of the script, written again; a byte that a space ends is sent before the space is written. A comment runs to the end
+// of its line.
+pub(crate) fn took(desk: Desk, array: &mut Array, tape: &mut Tape, byte: u8) -> Desk {
+    let mut d = desk;
     if d.comment {
-        say::say(byte);
-        return Desk {
-            comment: byte != b'\n',
-            ..d
-        };
+        say::letter(byte);
+        d.comment = byte != b'\n';
+        return d;
     }
-    order(d, array, film, byte)
+    if d.text {
+        say::letter(byte);
+        return letter(d, tape, byte);
+    }
+    if (byte == b' ') | (byte == b'\n') {
+        let sent = space(d, array, tape);
+        say::letter(byte);
+        return sent;
+    }
+    say::letter(byte);
+    order(d, array, tape, byte)
 }

@@ -1,49 +1,62 @@
-// What the vectors write: single bytes and numbers in hexadecimal, on standard output.
+// What the vectors write on standard output: the script's own bytes, and numbers in hexadecimal, in small letters.
 use libc::STDOUT_FILENO;
 
-pub fn say(byte: u8) {
-    io::write_all(STDOUT_FILENO, &[byte]);
+// Bytes as they are.
+pub(crate) fn text(s: &[u8]) {
+    io::write_all(STDOUT_FILENO, s);
 }
 
-fn nibble(n: u8) {
-    let digit = n % 16;
-    if digit < 10 {
-        say(48 + digit);
-    } else {
-        say(55 + digit);
-    }
-}
-
-// A byte as two digits.
-pub fn byte(b: u8) {
-    nibble(b / 16);
-    nibble(b % 16);
-}
-
-// A number below 1048576 as five digits.
-pub fn long(n: usize) {
-    nibble((n / 65536 % 16) as u8);
-    byte((n / 256 % 256) as u8);
-    byte((n % 256) as u8);
-}
-
-// An address as four digits.
-pub fn word(n: u16) {
-    byte((n / 256) as u8);
-    byte((n % 256) as u8);
-}
-
-// A mark and a digit, nothing for 0.
-pub fn unless_none(mark: u8, n: u8) {
-    if n != 0 {
-        say(mark);
-        nibble(n);
-    }
+// One byte as it is.
+pub(crate) fn letter(byte: u8) {
+    text(&[byte]);
 }
 
 // A letter where a flag is set.
-pub fn flag(on: bool, letter: u8) {
+pub(crate) fn flag(on: bool, byte: u8) {
     if on {
-        say(letter);
+        letter(byte);
     }
+}
+
+// A number of so many digits.
+pub(crate) fn hex(n: u64, digits: usize) {
+    io::print_hex(STDOUT_FILENO, n, digits);
+}
+
+// A byte as two digits.
+pub(crate) fn byte(b: u8) {
+    hex(b as u64, 2);
+}
+
+// A letter and a number of so many digits.
+pub(crate) fn number(sign: u8, n: u64, digits: usize) {
+    letter(sign);
+    hex(n, digits);
+}
+
+// A letter and a number, nothing for 0.
+pub(crate) fn unless_none(sign: u8, n: u8) {
+    if n != 0 {
+        number(sign, n as u64, 1);
+    }
+}
+
+// A number without its sign.
+fn size(z: i32) -> u64 {
+    if z < 0 { (-1 - z) as u64 + 1 } else { z as u64 }
+}
+
+// A letter and a number with its sign, of four digits or more.
+pub(crate) fn signed(sign: u8, z: i32) {
+    if z < 0 {
+        letter(sign);
+        number(b'-', size(z), 4);
+    } else {
+        number(sign, size(z), 4);
+    }
+}
+
+// A letter and a limit.
+pub(crate) fn limit(sign: u8, z: i16) {
+    signed(sign, z as i32);
 }

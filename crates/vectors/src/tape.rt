@@ -1,39 +1,45 @@
-// Whole traces: a tape is run with the lengths that the script sets, and what came back is written.
+// Whole traces, recovery and buffers: a tape is run with the lengths that the script sets, and what came back is written.
+use crate::count;
+use crate::desk::Array;
 use crate::desk::Desk;
 use crate::say;
+use crate::wires::Tape;
+use chip::chip::Chip;
 
 // What stands in the answer buffer before a run.
-const BEFORE: u8 = 238;
+const BEFORE: u8 = 0xee;
 
 // Answers that were not written, lines that were low, and the sum of all answers modulo 65,536.
 struct Tally {
-    kept: usize,
-    low: usize,
-    sum: usize,
+    kept: u64,
+    low: u64,
+    sum: u64,
 }
 
 // One answer: a note is written with its position.
-fn counted(t: Tally, at: usize, answer: u8) -> Tally {
+fn counted(tally: Tally, at: usize, answer: u8) -> Tally {
+    let mut t = tally;
     if answer == BEFORE {
-        return Tally {
-            kept: t.kept % 1000000 + 1,
-            ..t
-        };
+        t.kept = count::one_more(t.kept, true);
+        return t;
     }
     if answer / 2 != 0 {
-        say::say(b' ');
-        say::long(at);
-        say::unless_none(b'\'', answer / 2);
+        say::number(b' ', at as u64, 5);
+        say::number(b'\'', answer as u64 / 2, 1);
     }
-    let sum = (t.sum % 65536 + answer as usize) % 65536;
-    if answer % 2 == 0 {
-        return Tally {
-            low: t.low % 1000000 + 1,
-            sum: sum,
-            ..t
-        };
-    }
-    Tally { sum: sum, ..t }
+    t.low = count::one_more(t.low, answer % 2 == 0);
+    t.sum = count::added(t.sum, answer);
+    t
+}
+
+// What the tally counts.
+fn total(t: Tally) {
+    say::letter(b' ');
+    say::number(b'k', t.kept, 5);
+    say::letter(b' ');
+    say::number(b'l', t.low, 5);
+    say::letter(b' ');
+    say::number(b's', t.sum, 5);
 }
 
 // Writes the notes of the answers with their positions, then what the tally counts.
@@ -48,18 +54,12 @@ fn told(answers: &[u8]) {
         t = counted(t, i, answers[i]);
         i = i + 1;
     }
-    say::say(b' ');
-    say::say(b'k');
-    say::long(t.kept);
-    say::say(b' ');
-    say::say(b'l');
-    say::long(t.low);
-    say::say(b' ');
-    say::say(b's');
-    say::long(t.sum);
+    total(t);
 }
 
-fn run_with(d: Desk, array: &mut [u8], tape: &[u8], answers: &mut [u8]) -> Desk {
+// A trace on what is lent of array, tape and answers.
+fn run_with(desk: Desk, array: &mut [u8], tape: &[u8], answers: &mut [u8]) -> Desk {
+    let mut d = desk;
     let room = d.room;
     let length = d.length;
     let space = d.space;
@@ -75,7 +75,8 @@ fn run_with(d: Desk, array: &mut [u8], tape: &[u8], answers: &mut [u8]) -> Desk 
                 say::unless_none(b'!', ran.refusal);
                 told(answers);
                 let chip = ran.chip;
-                return Desk { chip: chip, ..d };
+                d.chip = chip;
+                return d;
             }
         }
     }
@@ -83,27 +84,28 @@ fn run_with(d: Desk, array: &mut [u8], tape: &[u8], answers: &mut [u8]) -> Desk 
 }
 
 // Runs what is on the tape.
-pub fn run_tape(d: Desk, array: &mut [u8; 16385], tape: &[u8; 65537]) -> Desk {
+pub(crate) fn run_tape(d: Desk, array: &mut Array, tape: &Tape) -> Desk {
     let mut answers = [BEFORE; 65540];
     run_with(d, array, tape, &mut answers)
 }
 
 // Recovery, with the pin as it stands.
-pub fn recover(d: Desk, array: &mut [u8]) -> Desk {
+pub(crate) fn recover(desk: Desk, array: &mut [u8]) -> Desk {
+    let mut d = desk;
     let room = d.room;
     if room <= array.len() {
         let freed = recovery::recover(d.chip, &mut array[..room], d.pin);
         say::unless_none(b'!', freed.refusal);
-        say::say(b'=');
-        say::byte(freed.pulses);
+        say::number(b'=', freed.pulses as u64, 2);
         let chip = freed.chip;
-        return Desk { chip: chip, ..d };
+        d.chip = chip;
+        return d;
     }
     d
 }
 
-// Puts a byte at every place of a buffer.
-pub fn fill(buffer: &mut [u8], byte: u8) {
+// Puts a byte at every position of a buffer.
+pub(crate) fn fill(buffer: &mut [u8], byte: u8) {
     let mut i: usize = 0;
     while i < buffer.len() {
         buffer[i] = byte;
@@ -111,33 +113,47 @@ pub fn fill(buffer: &mut [u8], byte: u8) {
     }
 }
 
-// Puts a byte at every place of the tape after what is on it.
-pub fn pad(tape: &mut [u8], length: usize, byte: u8) {
+// Puts a byte at every position of the tape after what is on it.
+pub(crate) fn pad(tape: &mut [u8], length: usize, byte: u8) {
     if length <= tape.len() {
         fill(&mut tape[length..], byte);
     }
 }
 
-// Puts a byte at one place, if there is one.
-pub fn poke(buffer: &mut [u8], at: usize, byte: u8) {
+// Puts a byte at one position, if there is one.
+pub(crate) fn poke(buffer: &mut [u8], at: usize, byte: u8) {
     if at < buffer.len() {
         buffer[at] = byte;
     }
 }
 
-// Writes the byte at one place.
-pub fn peek(buffer: &[u8], at: usize) {
+// Puts a byte at the last position of the tape.
+pub(crate) fn poke_last(tape: &mut [u8], length: usize, byte: u8) {
+    if 0 < length {
+        poke(tape, length - 1, byte);
+    }
+}
+
+// Writes the byte at one position, if there is one.
+fn byte(buffer: &[u8], at: usize) {
     if at < buffer.len() {
         say::byte(buffer[at]);
     }
 }
 
-// Writes the bytes of the sector of an address.
-pub fn sector(buffer: &[u8], address: usize) {
-    let first = address / 32 * 32;
+// The byte at an address.
+pub(crate) fn peek(buffer: &[u8], at: usize) {
+    say::letter(b'=');
+    byte(buffer, at);
+}
+
+// The bytes of the sector of an address.
+pub(crate) fn sector(buffer: &[u8], address: usize) {
+    let first = address / Chip::SECTOR * Chip::SECTOR;
+    say::letter(b'=');
     let mut i: usize = 0;
-    while i < 32 {
-        peek(buffer, first % 65536 + i);
+    while i < Chip::SECTOR {
+        byte(buffer, first % 65536 + i);
         i = i + 1;
     }
 }

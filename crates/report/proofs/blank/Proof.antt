@@ -1,4 +1,4 @@
--- `blank` meets its contract. Assumes nothing.
+-- The array is `blank` as it stands. Assumes nothing.
 use mathlib.Core.Path.{refl}
 use Rattle.report.specs.Report.{blank}
 use Rattle.report.proofs.blank.Statement.{statement}

@@ -1,4 +1,4 @@
--- `put_answers` meets its contract: heading, lines, count, and each has room. Assumes nothing.
+-- Heading, lines and count are put one behind the other, and 7 bytes a line leave room for each. Assumes nothing.
 use borrow.Author.Needs.{needs}
 use mathlib.Core.Path.{sym}
 use native.Mathlib.Omega.{arith}

@@ -1,4 +1,4 @@
--- `put_lines` meets its contract: before each turn it is `Going`. Assumes nothing.
+-- Before each turn it is `Going`: what is left, put where the loop stands, makes the whole. Assumes nothing.
 use Prim.Native.Nat.{_-_}
 use mathlib.Core.Path.{refl}
 use native.Mathlib.Omega.{arith}

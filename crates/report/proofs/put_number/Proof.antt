@@ -1,4 +1,4 @@
--- `put_number` meets its contract: each return has as many digits as the tests before it leave. Assumes nothing.
+-- Each return has put as many digits as the tests before it leave the number. Assumes nothing.
 use borrow.Author.Needs.{needs}
 use native.Mathlib.Omega.{arith}
 use mathlib.Core.Path.{refl}

@@ -1,4 +1,4 @@
--- `put_refused` meets its contract: the word, the number, the newline. Assumes nothing.
+-- The word, the number and the newline are put one behind the other. Assumes nothing.
 use borrow.Author.Needs.{needs}
 use native.Mathlib.Omega.{arith}
 use denote.Ref.{now}

@@ -1,4 +1,4 @@
--- `put_text` meets its contract: what is left of the text, put where the loop stands, makes the whole. Assumes nothing.
+-- Before each turn what is left of the text, put where the loop stands, makes the whole. Assumes nothing.
 use Prim.Native.Nat.{_+_, _≤_, _-_}
 use mathlib.Core.Path.{_≡_, refl, _∙_}
 use native.Mathlib.Omega.{arith}

@@ -1,4 +1,4 @@
--- `crep_event` meets its contract: it is a trace of one event byte. Assumes nothing.
+-- What a trace of one event byte is said to do, the event does, by `run-event`. Assumes nothing.
 use borrow.Author.Needs.{needs}
 use Rattle.crepulanter.proofs.OneEvent.{run-event}
 use Rattle.crepulanter.proofs.chips.crep_event.Statement.{statement}

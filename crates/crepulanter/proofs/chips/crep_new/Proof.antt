@@ -1,4 +1,4 @@
--- `crep_new` meets its contract: the chip that `made` gives, in its bytes. Assumes nothing.
+-- The chip that `made` gives is packed, refused or not. Assumes nothing.
 use borrow.Author.Needs.{needs}
 use Rattle.crepulanter.proofs.chips.crep_new.Statement.{statement}
 use Rattle.crepulanter.proofs.chips.crep_new.Tie as tie

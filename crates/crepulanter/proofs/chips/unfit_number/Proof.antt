@@ -1,4 +1,4 @@
--- `unfit_number` meets its contract. Assumes nothing.
+-- The test of the length is that of `unfit`. Assumes nothing.
 use borrow.Author.Tests.{eq-eqb, ne-eqb}
 use Rattle.crepulanter.specs.Calls.{unfit}
 use Rattle.crepulanter.proofs.chips.unfit_number.Statement.{statement}

@@ -1,4 +1,4 @@
--- `flag_bytes` meets its contract: after k turns the first k bytes are in place. Assumes nothing.
+-- Before each turn the first k bytes are in place. Assumes nothing.
 use Prim.Native.Nat.{_≤_, _-_}
 use mathlib.Core.Bool.{false}
 use mathlib.Core.Path.{_≡_, refl, sym, _∙_}
@@ -17,21 +17,22 @@ Inv-loop flags bytes₀ k₀ bytes k = (k ≤ 32) × (bytes ≡ take k (map flag
 abbrev μ-loop : tie.MeasureT-loop
 μ-loop flags bytes₀ k₀ bytes k = 32 - k
 
-loop-holds : tie.Need-loop-holds Inv-loop μ-loop
-loop-holds c = (omega arith, refl)
-
 loop-again : tie.Need-loop-again Inv-loop μ-loop
 loop-again c =
-    let long : length (c .before .before .before .args .t1) ≡ 32 = search needs in (
+    let l = c .before .before in
+    let flags = l .before .args .t1 in
+    let inside = c .before .loop-test .taken in
+    let long : length flags ≡ 32 = search needs in (
       omega arith,
-      copied-more (replicate 32 0) (map flagByte (c .before .before .before .args .t1)) _ (c .before .before .loop .k) _ 0 (c .before .loop-test .taken) (simp (length-map, long) (c .before .loop-test .taken)) (c .before .before .loop .inv .1)
-          (c .flag-byte .ensures ∙ sym (List·getD-map flagByte (c .before .before .before .args .t1) (c .before .before .loop .k) false)),
+      copied-more (replicate 32 0) (map flagByte flags) _ (l .loop .k) _ 0 inside (simp (length-map, long) inside) (l .loop .inv .1) (c .flag-byte .ensures ∙ sym (List·getD-map flagByte flags (l .loop .k) false)),
     )
 
 returns : tie.Need-returns Inv-loop μ-loop
 returns c =
-    let long : length (c .before .before .args .t1) ≡ 32 = search needs in
-    copied-end (replicate 32 0) (map flagByte (c .before .before .args .t1)) _ (c .before .loop .k) (c .loop-test .left) (simp (length-map, long) (c .loop-test .left)) (c .before .loop .inv .1)
+    let l = c .before in
+    let flags = l .before .args .t1 in
+    let long : length flags ≡ 32 = search needs in
+    copied-end (replicate 32 0) (map flagByte flags) _ (l .loop .k) (c .loop-test .left) (simp (length-map, long) (c .loop-test .left)) (l .loop .inv .1)
 
 pub flag-bytes-spec : {M : Type 1} → statement M
 flag-bytes-spec =
@@ -39,7 +40,7 @@ flag-bytes-spec =
     (tie.spec
     Inv-loop
     μ-loop
-    loop-holds
+    (λ c. (omega arith, refl))
     (λ c. omega arith)
     (λ c κs. search needs)
     (λ c. omega arith)

@@ -1,11 +1,17 @@
--- `head_bytes` meets its contract: each byte is its line of `headOf`. Assumes nothing.
+-- Each byte is its line of `headBytes`. Assumes nothing.
 use borrow.Author.Needs.{needs}
-use Rattle.crepulanter.specs.State.{headOf}
+use Rattle.crepulanter.specs.State.{headBytes}
 use Rattle.crepulanter.proofs.packing.head_bytes.Statement.{statement}
 use Rattle.crepulanter.proofs.packing.head_bytes.Tie as tie
 
+returns : tie.Need-returns
+unfolding headBytes
+returns c =
+    let levels = c .before .before .before in
+    let register = levels .before .before .before in
+    simp (c .flag-byte7 .ensures, c .before .flag-byte6 .ensures, c .before .before .flag-byte5 .ensures, levels .flag-byte4 .ensures, register .flag-byte3 .ensures, register .before .flag-byte2 .ensures, register .before .before .flag-byte .ensures, register .before .before .before .phase-bytes .ensures)
+
 pub head-bytes-spec : {M : Type 1} → statement M
-unfolding headOf
 head-bytes-spec =
     tie.close
     (tie.spec
@@ -23,4 +29,4 @@ head-bytes-spec =
     (λ c. search needs)
     (λ c. search needs)
     (λ c. search needs)
-    (λ c. simp (c .flag-byte7 .ensures, c .before .flag-byte6 .ensures, c .before .before .flag-byte5 .ensures, c .before .before .before .flag-byte4 .ensures, c .before .before .before .before .before .before .flag-byte3 .ensures, c .before .before .before .before .before .before .before .flag-byte2 .ensures, c .before .before .before .before .before .before .before .before .flag-byte .ensures, c .before .before .before .before .before .before .before .before .before .phase-bytes .ensures)))
+    returns)

@@ -1,15 +1,52 @@
--- `pack` meets its contract: the three rows of `bytesOf`. Assumes nothing.
+-- The rows of `bytesOf` are copied one behind the other, so that after each the bytes up to its end are in place. Assumes nothing.
+use Prim.Native.Nat.{ℕ}
+use mathlib.Core.List.{[], append-assoc}
+use mathlib.Core.Path.{_≡_, refl, sym, _∙_}
+use native.Mathlib.Omega.{arith}
 use borrow.Author.Needs.{needs}
+use lib.ListN.{length, replicate, length-replicate}
+use Rattle.crepulanter.specs.At as at
 use Rattle.crepulanter.specs.State.{bytesOf}
+use Rattle.crepulanter.proofs.Copies.{Front, front-more, front-end}
 use Rattle.crepulanter.proofs.packing.pack.Statement.{statement}
 use Rattle.crepulanter.proofs.packing.pack.Tie as tie
 
-pub pack-spec : {M : Type 1} → statement M
+load-long : tie.Need-slice-aggregate-copy-at-6
+load-long c = search needs
+
+copy-at-requires-3 : tie.Need-copy-at-requires-3
+copy-at-requires-3 c κs =
+    let sized : length (c .before .before .before .copy-at2 .last .0) ≡ at.size = search needs in
+    omega (arith, load-long c)
+
+returns : tie.Need-returns
 unfolding bytesOf
+returns c =
+    let third = c .before in
+    let second = third .before .before .before .before in
+    let first = second .before .before .before .before in
+    let places = first .before .before .before in
+    let head = places .before in
+    let load = head .before .before .before .before .args .chip .load .bytes in
+    let none : Front 0 [] (replicate at.size 0) = record { sized = length-replicate {A = ℕ} at.size 0; placed = refl } in
+    let one = front-more (head .head-bytes .result) at.places none (search needs) (omega arith) (first .copy-at .ensures) in
+    let two = front-more (places .flag-bytes .result) 32 one (search needs) (omega arith) (second .copy-at2 .ensures) in
+    let three = front-more load 32 two (sym (load-long (third .before))) (omega arith) (third .copy-at3 .ensures) in
+    front-end three ∙ simp (head .head-bytes .ensures, places .flag-bytes .ensures, append-assoc)
+
+pub pack-spec : {M : Type 1} → statement M
 pack-spec =
     tie.close
     (tie.spec
     (λ c κs. search needs)
     (λ c κs. search needs)
+    (λ c. search needs)
+    (λ c. search needs)
     (λ c κs. search needs)
-    (λ c. simp (c .joined .ensures, c .before .flag-bytes .ensures, c .before .before .head-bytes .ensures)))
+    (λ c. search needs)
+    (λ c. search needs)
+    (λ c κs. search needs)
+    (λ c. search needs)
+    load-long
+    copy-at-requires-3
+    returns)

@@ -1,4 +1,4 @@
--- `phase_bytes` meets its contract: each arm is its clause of `phaseBytes`. Assumes nothing.
+-- Each arm is its clause of `phaseBytes`. Assumes nothing.
 use borrow.Author.Needs.{needs}
 use Rattle.crepulanter.specs.State.{phaseBytes}
 use Rattle.crepulanter.proofs.packing.phase_bytes.Statement.{statement}

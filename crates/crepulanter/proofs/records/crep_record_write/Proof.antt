@@ -1,4 +1,4 @@
--- `crep_record_write` meets its contract: the answer of the gate's crate, whose limits are those that their bits stand for. Assumes nothing.
+-- The answer is that of the gate's crate, whose limits are those that their bits stand for. Assumes nothing.
 use borrow.Author.Needs.{needs}
 use mir.Syntax.{w32}
 use mir.ValLaws.{toZ-ofZ}

@@ -1,4 +1,4 @@
--- `is_free` meets its contract: each arm is its clause of `saysFree`. Assumes nothing.
+-- Each arm is its clause of `saysFree`. Assumes nothing.
 use borrow.Author.Needs.{needs}
 use Rattle.crepulanter.proofs.records.is_free.Statement.{statement}
 use Rattle.crepulanter.proofs.records.is_free.Tie as tie

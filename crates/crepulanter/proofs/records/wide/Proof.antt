@@ -1,4 +1,4 @@
--- `wide` meets its contract: a number of sixteen bits is one of 32. Assumes nothing.
+-- A number of sixteen bits is one of 32. Assumes nothing.
 use Rattle.gate.proofs.Numbers.{wide-back, wide-fits}
 use Rattle.crepulanter.proofs.records.wide.Statement.{statement}
 use Rattle.crepulanter.proofs.records.wide.Tie as tie

@@ -1,14 +1,30 @@
--- `bytes_fit` meets its contract. Assumes nothing.
+-- The three tests are those of `bytesFit`. Assumes nothing.
 use borrow.Author.Needs.{needs}
 use Rattle.crepulanter.specs.State.{bytesFit}
 use Rattle.crepulanter.proofs.unpacking.bytes_fit.Statement.{statement}
 use Rattle.crepulanter.proofs.unpacking.bytes_fit.Tie as tie
 
-pub bytes-fit-spec : {M : Type 1} → statement M
+returns : tie.Need-returns
 unfolding bytesFit
+returns c =
+    let tested = c .before .before .before in
+    simp (c .before .all-flags2 .ensures, tested .all-flags .ensures, tested .before .before .row-at .ensures)
+
+pub bytes-fit-spec : {M : Type 1} → statement M
 bytes-fit-spec =
     tie.close
     (tie.spec
+    (λ c. search needs)
+    (λ c. search needs)
+    (λ c. search needs)
+    (λ c. search needs)
+    (λ c. search needs)
+    (λ c. search needs)
+    (λ c. search needs)
     (λ c κs. search needs)
+    (λ c. search needs)
     (λ c κs. search needs)
-    (λ c. simp (c .places-fit .ensures, c .before .head-fits .ensures)))
+    (λ c. search needs)
+    (λ c κs. search needs)
+    (λ c. search needs)
+    returns)

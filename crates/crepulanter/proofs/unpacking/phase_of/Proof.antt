@@ -1,4 +1,4 @@
--- `phase_of` meets its contract: each number is its line of `phaseOf`. Assumes nothing.
+-- Each number is its line of `phaseOf`. Assumes nothing.
 use borrow.Author.Tests.{ne-eqb}
 use Rattle.crepulanter.specs.State.{phaseOf}
 use Rattle.crepulanter.proofs.unpacking.phase_of.Statement.{statement}

@@ -1,11 +1,19 @@
--- `unpack` meets its contract: each field is its line of `chipOf`. Assumes nothing.
+-- Each field is its line of `chipOf`, and each call gives the part that it is named for. Assumes nothing.
 use borrow.Author.Needs.{needs}
 use Rattle.crepulanter.specs.State.{chipOf}
 use Rattle.crepulanter.proofs.unpacking.unpack.Statement.{statement}
 use Rattle.crepulanter.proofs.unpacking.unpack.Tie as tie
 
-pub unpack-spec : {M : Type 1} → statement M
+returns : tie.Need-returns
 unfolding chipOf
+returns c =
+    let counted = c .before .before .before .before .before .before .before .before .before .before .before in
+    let loaded = counted .before .before .before in
+    let placed = loaded .before in
+    let phased = placed .before .before in
+    simp (counted .counter-of .ensures, loaded .row-at2 .ensures, placed .flags-of .ensures, placed .before .row-at .ensures, phased .phase-of .ensures)
+
+pub unpack-spec : {M : Type 1} → statement M
 unpack-spec =
     tie.close
     (tie.spec
@@ -16,6 +24,7 @@ unpack-spec =
     (λ c κs. search needs)
     (λ c κs. search needs)
     (λ c κs. search needs)
+    (λ c κs. search needs)
     (λ c. search needs)
     (λ c. search needs)
     (λ c κs. search needs)
@@ -30,4 +39,4 @@ unpack-spec =
     (λ c. search needs)
     (λ c. search needs)
     (λ c. search needs)
-    (λ c. simp (c .before .before .before .before .before .before .before .before .before .before .before .counter-of .ensures, c .before .before .before .before .before .before .before .before .before .before .before .before .before .before .load-of .ensures, c .before .before .before .before .before .before .before .before .before .before .before .before .before .before .before .places-of .ensures, c .before .before .before .before .before .before .before .before .before .before .before .before .before .before .before .before .phase-of .ensures)))
+    returns)

@@ -13,7 +13,7 @@ recover-spec =
     (λ c. sym (length-take-le _ _ (c .before .if1 .taken)))
     (λ c κs. search needs)
     (λ c κs. search needs)
-    (λ c κs. search needs)
+    (λ c. search needs)
     (λ c κs. search needs)
     (λ c. search needs)
     (λ c. search needs)

@@ -1,0 +1,70 @@
+// Chips that no run reaches: a field is set to any number.
+use chip::chip::Chip;
+use parts::load::Load;
+use parts::phase::Phase;
+use parts::register::Register;
+
+// The phase of a number, 0 standby to 11 next as in the C header, with so many bits received or this bit being sent, all else 0.
+fn phase_of(phase: u8, bits: u8) -> Phase {
+    match phase {
+        1 => Phase::Slave { bits: bits, got: 0 },
+        2 => Phase::First { bits: bits, got: 0 },
+        3 => Phase::Second {
+            high: 0,
+            bits: bits,
+            got: 0,
+        },
+        4 => Phase::Data { bits: bits, got: 0 },
+        5 => Phase::AckWrite,
+        6 => Phase::AckRead,
+        7 => Phase::AckFirst { high: 0 },
+        8 => Phase::AckByte,
+        9 => Phase::Sending { bit: bits, byte: 0 },
+        10 => Phase::Waiting,
+        11 => Phase::Next,
+        _ => Phase::Standby,
+    }
+}
+
+// An empty load with a count.
+fn counted(n: u8) -> Load {
+    let mut load = Load::none();
+    load.count = n;
+    load
+}
+
+// The chip with a field at a number: 0 part, 1 select, 2 BL, 3 counter (times 256), 4 phase and bits, 5 count, 6 busy.
+pub(crate) fn altered(chip: Chip, field: u8, n: u8) -> Chip {
+    let mut c = chip;
+    match field {
+        0 => {
+            c.part = n;
+            c
+        }
+        1 => {
+            c.select = n;
+            c
+        }
+        2 => {
+            c.register.bl = n;
+            c
+        }
+        3 => {
+            c.counter = n as u16 * 256;
+            c
+        }
+        4 => Chip {
+            phase: phase_of(n / 16, n % 16),
+            ..c
+        },
+        5 => {
+            let load = counted(n);
+            c.load = load;
+            c
+        }
+        _ => {
+            c.busy = n == 1;
+            c
+        }
+    }
+}
