@@ -29,16 +29,6 @@ pub refused-array : (e : Event) (c : Chip) (xs : List ℕ) → (refusal c xs ≡
 unfolding eventArray
 refused-array e c xs h = rw (ne-eqb (refusal c xs) 0 h)
 
--- what is not refused is answered with the next chip and its note
-pub taken-answer : (e : Event) (c : Chip) (xs : List ℕ) → refusal c xs ≡ 0 → eventAnswer e c xs ≡ answered 0 (next e c xs)
-unfolding eventAnswer
-taken-answer e c xs h = rw h
-
--- what is not refused leaves the next array
-pub taken-array : (e : Event) (c : Chip) (xs : List ℕ) → refusal c xs ≡ 0 → eventArray e c xs ≡ nextArray e c xs
-unfolding eventArray
-taken-array e c xs h = rw h
-
 -- what is not refused: an array of 16,384 bytes and a chip in range
 pub taken-of : (c : Chip) (xs : List ℕ) → refusal c xs ≡ 0 → (length xs ≡ 16384) × (chipFits c ≡ true)
 unfolding refusal

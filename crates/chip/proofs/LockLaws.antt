@@ -12,7 +12,7 @@ use Rattle.parts.proofs.LockLaws.{locked-whole, locked-from-start}
 use Rattle.parts.proofs.RegisterLaws.{written-kept}
 use Rattle.chip.specs.Event.{next, nextArray}
 use Rattle.chip.specs.View.{pinHigh, Did, Touched}
-use Rattle.chip.specs.View.Did.{nothing, done, clear, change, store}
+use Rattle.chip.specs.View.Did.{nothing, finish, clear, change, store}
 use Rattle.chip.specs.declared.chip.Chip.{Chip}
 use Rattle.chip.specs.declared.wire.Event.{Event}
 use Rattle.chip.proofs.ViewLaws.{view}
@@ -26,7 +26,7 @@ module _ {e : Event} {c : Chip} {xs : List ℕ} {after : Register} {busy : Bool}
   -- what the view says of a locked byte
   did-locked : Did e c xs after busy note ys → (a : ℕ) → locked (c .part) (c .register .bl) (pinHigh e) a ≡ true → getD ys a 0 ≡ getD xs a 0
   did-locked (nothing d) a shut = rw (d .array)
-  did-locked (done d) a shut = rw (d .array)
+  did-locked (finish d) a shut = rw (d .array)
   did-locked (clear d) a shut = rw (d .array)
   did-locked (change d) a shut = rw (d .array)
   did-locked (store d) a shut =
@@ -36,7 +36,7 @@ module _ {e : Event} {c : Chip} {xs : List ℕ} {after : Register} {busy : Bool}
   -- what the view says of PPEN and BL under a high pin
   did-guarded : Did e c xs after busy note ys → (c .register .ppen && pinHigh e) ≡ true → (after .ppen ≡ c .register .ppen) × (after .bl ≡ c .register .bl)
   did-guarded (nothing d) high = rw (d .register) (refl, refl)
-  did-guarded (done d) high = rw (d .register) (refl, refl)
+  did-guarded (finish d) high = rw (d .register) (refl, refl)
   did-guarded (clear d) high = rw (d .register) (refl, refl)
   did-guarded (change d) high = rw (ap (λ w. w .register) (d .wrote)) (written-kept (c .register) (getD (c .load .bytes) 0 0) (pinHigh e) high)
   did-guarded (store d) high = rw (d .register) (refl, refl)
@@ -44,7 +44,7 @@ module _ {e : Event} {c : Chip} {xs : List ℕ} {after : Register} {busy : Bool}
   -- what the view says of a byte that changed
   did-touched : Did e c xs after busy note ys → (a : ℕ) → (getD ys a 0 ≡ getD xs a 0 → ⊥) → Touched c a note (getD ys a 0)
   did-touched (nothing d) a new = absurd (new (rw (d .array)))
-  did-touched (done d) a new = absurd (new (rw (d .array)))
+  did-touched (finish d) a new = absurd (new (rw (d .array)))
   did-touched (clear d) a new = absurd (new (rw (d .array)))
   did-touched (change d) a new = absurd (new (rw (d .array)))
   did-touched (store d) a new =

@@ -16,7 +16,7 @@ use Rattle.parts.proofs.RegisterLaws.{Noted, written-noted}
 use Rattle.chip.specs.Event.{next, nextArray}
 use Rattle.chip.specs.Stop.{effectMoved}
 use Rattle.chip.specs.View.{pinHigh, stops, mute, Untouched, Changed, Told, Did, DidBy}
-use Rattle.chip.specs.View.Did.{nothing, done, clear, change, store}
+use Rattle.chip.specs.View.Did.{nothing, finish, clear, change, store}
 use Rattle.chip.specs.declared.chip.Chip.{Chip}
 use Rattle.chip.specs.declared.wire.Event.{Event}
 use Rattle.chip.specs.declared.wire.Event.the-variants.{Sample, ProgramDone, PowerUp}
@@ -32,7 +32,7 @@ view e c xs =
     (λ phase counter mark load note m. nothing (record { array = refl; register = refl; same = refl; silent = m .silent }))
     (λ stopped marks. change (record { stopped = stopped; marks = marks; array = refl; wrote = refl }))
     (λ stopped storable. store (record { stopped = stopped; storable = storable; array = refl; register = refl; began = refl; said = refl }))
-    (λ event. done (record { event = event; array = refl; register = refl; ended = refl; silent = refl }))
+    (λ event. finish (record { event = event; array = refl; register = refl; ended = refl; silent = refl }))
     (λ event. clear (record { event = event; array = refl; register = refl; ended = refl; silent = refl }))
 
 -- a note that says nothing of a write is at most 7
@@ -66,7 +66,7 @@ module _ {e : Event} {c : Chip} {xs : List ℕ} {after : Register} {busy : Bool}
   -- what the view says of the array's length
   did-length : Did e c xs after busy note ys → length ys ≡ length xs
   did-length (nothing d) = ap length (d .array)
-  did-length (done d) = ap length (d .array)
+  did-length (finish d) = ap length (d .array)
   did-length (clear d) = ap length (d .array)
   did-length (change d) = ap length (d .array)
   did-length (store d) = ap length (d .array) ∙ length-stored xs _ (c .load)
@@ -89,7 +89,7 @@ module _ {e : Event} {c : Chip} {xs : List ℕ} {after : Register} {busy : Bool}
         three = λ n. absurd (false≢true (rw n at (d .silent)));
         more = λ n. record { array = d .array; register = d .register; same = d .same };
       }
-  did-told (done d) = silent (d .silent)
+  did-told (finish d) = silent (d .silent)
   did-told (clear d) = silent (d .silent)
   did-told (change d) =
       let noted : Noted (c .register) (record { register = after; busy = busy; note = note }) = changed-noted d in
@@ -108,7 +108,7 @@ module _ {e : Event} {c : Chip} {xs : List ℕ} {after : Register} {busy : Bool}
   did-unstopped : (s : Levels) → e ≡ Sample s → stops e c ≡ false → Did e c xs after busy note ys → Untouched c xs after busy ys
   unfolding isSample
   did-unstopped s here other (nothing d) = record { array = d .array; register = d .register; same = d .same }
-  did-unstopped s here other (done d) = absurd (false≢true (sym (ap isSample (d .event)) ∙ ap isSample here))
+  did-unstopped s here other (finish d) = absurd (false≢true (sym (ap isSample (d .event)) ∙ ap isSample here))
   did-unstopped s here other (clear d) = absurd (false≢true (sym (ap isSample (d .event)) ∙ ap isSample here))
   did-unstopped s here other (change d) = absurd (false≢true (sym other ∙ d .stopped .stop))
   did-unstopped s here other (store d) = absurd (false≢true (sym other ∙ d .stopped .stop))
@@ -116,7 +116,7 @@ module _ {e : Event} {c : Chip} {xs : List ℕ} {after : Register} {busy : Bool}
   -- no note is above 7
   did-note : Did e c xs after busy note ys → note ≤ 7
   did-note (nothing d) = mute-most note (d .silent)
-  did-note (done d) = omega (arith, d .silent)
+  did-note (finish d) = omega (arith, d .silent)
   did-note (clear d) = omega (arith, d .silent)
   did-note (change d) = noted-most (changed-noted d)
   did-note (store d) = omega (arith, d .said)

@@ -22,7 +22,7 @@ use lib.Dec.{eqb}
 use lib.ListN.{getD}
 use Rattle.parts.specs.Load.{noLoad, stored}
 use Rattle.parts.specs.Locks.{locked}
-use Rattle.parts.specs.Register.{written, outcome, withPel, withRpel}
+use Rattle.parts.specs.Register.{written, writtenAs, withPel, withRpel}
 use Rattle.parts.specs.Rows.{every}
 use Rattle.parts.specs.Sector.{sectorStart}
 use Rattle.parts.specs.declared.phase.Phase.the-variants.{Slave}
@@ -106,7 +106,7 @@ pub record Changed (e : Event) (c : Chip) (xs : List ℕ) (after : Register) (bu
   pub stopped : Stopped e c
   pub marks : marked (c .part) (c .mark) ≡ true
   pub array : ys ≡ xs
-  pub wrote : outcome after busy note ≡ written (c .register) (getD (c .load .bytes) 0 0) (pinHigh e)
+  pub wrote : writtenAs after busy note ≡ written (c .register) (getD (c .load .bytes) 0 0) (pinHigh e)
 
 -- a store: the loaded places of the counter's sector take their bytes, which no lock forbids, and a cycle begins with note 1
 pub record Stored (e : Event) (c : Chip) (xs : List ℕ) (after : Register) (busy : Bool) (note : ℕ) (ys : List ℕ) : Type 0 where
@@ -120,7 +120,7 @@ pub record Stored (e : Event) (c : Chip) (xs : List ℕ) (after : Register) (bus
 -- nothing else is ever written
 pub data Did (e : Event) (c : Chip) (xs : List ℕ) (after : Register) (busy : Bool) (note : ℕ) (ys : List ℕ) : Type 0 where
   nothing : Kept c xs after busy note ys → Did e c xs after busy note ys
-  done : Done e c xs after busy note ys → Did e c xs after busy note ys
+  finish : Done e c xs after busy note ys → Did e c xs after busy note ys
   clear : Cleared e c xs after busy note ys → Did e c xs after busy note ys
   change : Changed e c xs after busy note ys → Did e c xs after busy note ys
   store : Stored e c xs after busy note ys → Did e c xs after busy note ys

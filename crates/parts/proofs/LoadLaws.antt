@@ -128,16 +128,6 @@ stored-changed xs at load a other = go (ℕ-discrete (sectorStart a) (sectorStar
     go (no apart) (yes within) = absurd (other (stored-outside xs at load a apart))
     go (no apart) (no without) = absurd (other (stored-outside xs at load a apart))
 
--- a load with one byte more has as many bytes as before
-pub length-loaded-bytes : (load : Load) (at byte : ℕ) → length (loaded load at byte .bytes) ≡ length (load .bytes)
-unfolding loaded
-length-loaded-bytes load at byte = length-set (load .bytes) (at % 32) byte
-
--- a load with one byte more has as many places as before
-pub length-loaded-places : (load : Load) (at byte : ℕ) → length (loaded load at byte .places) ≡ length (load .places)
-unfolding loaded
-length-loaded-places load at byte = length-set (load .places) (at % 32) true
-
 -- a count stays at most 33
 pub counted-most : (n : ℕ) → counted n ≤ 33
 counted-most n = cond-by (λ m. m ≤ 33) (ltb n 33) (n + 1) 33 (λ e. omega (arith, ltb-true n 33 e)) (λ e. omega arith)
@@ -146,7 +136,3 @@ counted-most n = cond-by (λ m. m ≤ 33) (ltb n 33) (n + 1) 33 (λ e. omega (ar
 pub loaded-most : (load : Load) (at byte : ℕ) → loaded load at byte .count ≤ 33
 unfolding loaded
 loaded-most load at byte = counted-most (load .count)
-
--- a load with one byte more is not empty
-pub counted-some : (n : ℕ) → counted n ≡ 0 → ⊥
-counted-some n = cond-by (λ m. m ≡ 0 → ⊥) (ltb n 33) (n + 1) 33 (λ e h. omega arith) (λ e h. omega arith)

@@ -57,10 +57,6 @@ first-inside (suc (suc part)) bl p b = absurd (omega arith)
 pub first-starts : (part bl : ℕ) → firstLocked part bl % 32 ≡ 0
 first-starts part bl = first-by (λ first. first % 32 ≡ 0) refl refl refl refl part bl
 
--- a first locked address is in the array, or its end where none is
-pub first-most : (part bl : ℕ) → firstLocked part bl ≤ 0x4000
-first-most part bl = first-by (λ first. first ≤ 0x4000) (omega arith) (omega arith) (omega arith) (omega arith) part bl
-
 -- a test that is passed at each of two numbers or at neither
 leb-same : (first a b : ℕ) → (first ≤ a → first ≤ b) → (first ≤ b → first ≤ a) → leb first a ≡ leb first b
 leb-same first a b there back = go (leb first a) refl

@@ -15,7 +15,7 @@ abbrev Bit : (Phase → Phase → Type 0) → Bool → (ℕ → ℕ → Phase) �
 Bit Q bit at = (bits got : ℕ) → ltb bits 8 ≡ true → Q (at bits got) (at (bits + 1) (received got bit))
 
 -- every clock rise leaves the phase, brings a bit, or hears the master's answer
-pub risen-by : (Q : Phase → Phase → Type 0) (p : Phase) (bit : Bool) → ((q : Phase) → Q q q)
+risen-by : (Q : Phase → Phase → Type 0) (p : Phase) (bit : Bool) → ((q : Phase) → Q q q)
     → Bit Q bit Slave → Bit Q bit First → ((high : ℕ) → Bit Q bit (Second high)) → Bit Q bit Data → Q Waiting Standby → Q Waiting Next
     → Q p (risen p bit)
 unfolding risen

@@ -5,24 +5,24 @@ use mathlib.Core.Bool.{Bool, true, false, not, _&&_, _||_, true≢false}
 use mathlib.Core.Path.{_≡_, refl, sym, _∙_}
 use native.Mathlib.Omega.{arith}
 use lib.Dec.{eqb}
-use Rattle.parts.specs.Register.{written, latchWritten, lockWritten, outcome, withPel, withRpel, withLocks, reserved}
+use Rattle.parts.specs.Register.{written, latchWritten, lockWritten, writtenAs, withPel, withRpel, withLocks, reserved}
 use Rattle.parts.specs.declared.register.Register.{Register}
 use Rattle.parts.specs.declared.register.Written.{Written}
 use Rattle.parts.proofs.CondLaws.{cond-by}
 
 -- what holds of a byte that is not taken, of each latch and of new locks holds of every byte
-pub written-by : (P : Written → Type 0) (r : Register) (byte : ℕ) (pin : Bool) → P (outcome r false 6)
-    → ((on : Bool) → P (outcome (withPel r on) false 3)) → P (outcome (withRpel r true) false 3)
-    → ((r .ppen && pin) ≡ false → (ppen : Bool) → P (outcome (withLocks r ppen (byte / 8 % 4)) true 2))
+pub written-by : (P : Written → Type 0) (r : Register) (byte : ℕ) (pin : Bool) → P (writtenAs r false 6)
+    → ((on : Bool) → P (writtenAs (withPel r on) false 3)) → P (writtenAs (withRpel r true) false 3)
+    → ((r .ppen && pin) ≡ false → (ppen : Bool) → P (writtenAs (withLocks r ppen (byte / 8 % 4)) true 2))
     → P (written r byte pin)
 unfolding written latchWritten lockWritten
 written-by P r byte pin none pel rpel locks =
-    cond-by P (reserved byte) (outcome r false 6) _ (λ e. none)
+    cond-by P (reserved byte) (writtenAs r false 6) _ (λ e. none)
     (λ e. cond-by P (r .rpel) _ _
-    (λ f. cond-by P (not (eqb (byte % 8) 0b010) || (r .ppen && pin)) (outcome r false 6) _ (λ g. none) (λ g. locks (or-right (not (eqb (byte % 8) 0b010)) (r .ppen && pin) g) _))
-    (λ f. cond-by P (eqb byte 0x00) (outcome (withPel r false) false 3) _ (λ g. pel false)
-    (λ g. cond-by P (eqb byte 0x02) (outcome (withPel r true) false 3) _ (λ h. pel true)
-    (λ h. cond-by P (eqb byte 0x06 && r .pel) (outcome (withRpel r true) false 3) (outcome r false 6) (λ i. rpel) (λ i. none)))))
+    (λ f. cond-by P (not (eqb (byte % 8) 0b010) || (r .ppen && pin)) (writtenAs r false 6) _ (λ g. none) (λ g. locks (or-right (not (eqb (byte % 8) 0b010)) (r .ppen && pin) g) _))
+    (λ f. cond-by P (eqb byte 0x00) (writtenAs (withPel r false) false 3) _ (λ g. pel false)
+    (λ g. cond-by P (eqb byte 0x02) (writtenAs (withPel r true) false 3) _ (λ h. pel true)
+    (λ h. cond-by P (eqb byte 0x06 && r .pel) (writtenAs (withRpel r true) false 3) (writtenAs r false 6) (λ i. rpel) (λ i. none)))))
   where
     or-right : (a b : Bool) → (a || b) ≡ false → b ≡ false
     or-right true b g = absurd (true≢false g)
@@ -55,5 +55,5 @@ written-noted r byte pin =
     (record { six = λ e. absurd (omega arith); three = λ e. (refl, refl, refl); two = λ e. absurd (omega arith); only = λ not2 not3. absurd (not3 refl) })
     (λ e ppen. record { six = λ f. absurd (omega arith); three = λ f. absurd (omega arith); two = λ f. (refl, refl, refl); only = λ not2 not3. absurd (not2 refl) })
   where
-    latched : (on : Bool) → Noted r (outcome (withPel r on) false 3)
+    latched : (on : Bool) → Noted r (writtenAs (withPel r on) false 3)
     latched on = record { six = λ e. absurd (omega arith); three = λ e. (refl, refl, refl); two = λ e. absurd (omega arith); only = λ not2 not3. absurd (not3 refl) }

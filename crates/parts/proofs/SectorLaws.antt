@@ -4,14 +4,6 @@ use mathlib.Core.Path.{_≡_}
 use native.Mathlib.Omega.{arith}
 use Rattle.parts.specs.Sector.{sectorStart, nextPlace, nextAddress}
 
--- an address is not before its sector's start
-pub start-below : (a : ℕ) → sectorStart a ≤ a
-start-below a = omega arith
-
--- nor 32 or more after it
-pub start-above : (a : ℕ) → a < sectorStart a + 32
-start-above a = omega arith
-
 -- an address is its sector's start and its low five bits
 pub start-and-place : (a : ℕ) → sectorStart a + a % 32 ≡ a
 start-and-place a = omega arith

@@ -3,7 +3,7 @@
 -- | Name | Meaning |
 -- |---|---|
 -- | `registerByte` | the byte that a read sends |
--- | `outcome r busy note` | the outcome of a write: the register after it, whether a cycle begins, the note |
+-- | `writtenAs r busy note` | the outcome of a write: the register after it, whether a cycle begins, the note |
 -- | `withPel`, `withRpel`, `withLocks` | the register with one bit set or cleared; with PPEN and BL written |
 -- | `reserved`, `latchWritten`, `lockWritten` | rules 1, 2 and 3 |
 -- | `written r byte pin` | what a byte does, with the protect pin at the stop |
@@ -19,8 +19,8 @@ abbrev pub registerByte : Register → ℕ
 registerByte r = weight (r .ppen) 0x80 + r .bl % 4 * 8 + weight (r .rpel) 4 + weight (r .pel) 2
 
 -- an outcome
-abbrev pub outcome : Register → Bool → ℕ → Written
-outcome r busy note = record { register = r; busy = busy; note = note }
+abbrev pub writtenAs : Register → Bool → ℕ → Written
+writtenAs r busy note = record { register = r; busy = busy; note = note }
 
 -- one bit of the register
 abbrev pub withPel : Register → Bool → Register
@@ -40,18 +40,18 @@ reserved byte = bitOf byte 0 || bitOf byte 5 || bitOf byte 6
 -- rule 2 (S14), RPEL clear: 00h and 02h write PEL, 06h sets RPEL where PEL is set; note 3, and 6 for any other byte
 unfoldable pub latchWritten : Register → ℕ → Written
 latchWritten r byte =
-    cond (eqb byte 0x00) (outcome (withPel r false) false 3)
-    (cond (eqb byte 0x02) (outcome (withPel r true) false 3)
-    (cond (eqb byte 0x06 && r .pel) (outcome (withRpel r true) false 3)
-    (outcome r false 6)))
+    cond (eqb byte 0x00) (writtenAs (withPel r false) false 3)
+    (cond (eqb byte 0x02) (writtenAs (withPel r true) false 3)
+    (cond (eqb byte 0x06 && r .pel) (writtenAs (withRpel r true) false 3)
+    (writtenAs r false 6)))
 
 -- rule 3 (S15, S16), RPEL set: low bits other than 010, or PPEN set and the pin high, are note 6; else PPEN and BL are written, RPEL is cleared
 -- and a cycle begins, note 2
 unfoldable pub lockWritten : Register → ℕ → Bool → Written
 lockWritten r byte pin =
-    cond (not (eqb (byte % 8) 0b010) || (r .ppen && pin)) (outcome r false 6)
-    (outcome (withLocks r (bitOf byte 7) (byte / 8 % 4)) true 2)
+    cond (not (eqb (byte % 8) 0b010) || (r .ppen && pin)) (writtenAs r false 6)
+    (writtenAs (withLocks r (bitOf byte 7) (byte / 8 % 4)) true 2)
 
 -- the rules in their order
 unfoldable pub written : Register → ℕ → Bool → Written
-written r byte pin = cond (reserved byte) (outcome r false 6) (cond (r .rpel) (lockWritten r byte pin) (latchWritten r byte))
+written r byte pin = cond (reserved byte) (writtenAs r false 6) (cond (r .rpel) (lockWritten r byte pin) (latchWritten r byte))

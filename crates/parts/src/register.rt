@@ -1,7 +1,7 @@
 // The register: its four bits, the byte that it reads as, and what a byte written to it does.
 ghost use mathlib.Core.Path.{_≡_};
 ghost use mathlib.Core.Bool.{false};
-ghost use Rattle.parts.specs.Register.{registerByte, written, reserved, outcome, latchWritten, lockWritten};
+ghost use Rattle.parts.specs.Register.{registerByte, written, reserved, writtenAs, latchWritten, lockWritten};
 use crate::phase::bit_of;
 use crate::phase::weigh;
 
@@ -44,7 +44,7 @@ impl Register {
 
     // A byte that changes no bit: note 6.
     fn refused(self) -> Written
-        ensures { λ r. ⌜ r ≡ outcome self false 6 ⌝ }
+        ensures { λ r. ⌜ r ≡ writtenAs self false 6 ⌝ }
     {
         Written {
             register: self,

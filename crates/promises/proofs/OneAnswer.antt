@@ -59,8 +59,8 @@ with-array : {A U : Type 0} {r d : A} {left : Unit {0} × (List ℕ × U)} {ys :
 with-array {left} p i = (p .0 i, (tt, (p .1 i, left .1 .1)))
 
 -- two that are named by one definition are equal
-same : {A : Type 0} {x y d : A} → x ≡ d → y ≡ d → x ≡ y
-same p q = p ∙ sym q
+both : {A : Type 0} {x y d : A} → x ≡ d → y ≡ d → x ≡ y
+both p q = p ∙ sym q
 
 -- a contract whose parts each name what they allow: part by part, two outcomes are equal
 by-parts : (c : Contract) → OneAnswer c → Operation
@@ -211,26 +211,26 @@ operations =
     (λ κs input r left p i. (p .0 i, (tt, (tt, (p .1 i, tt)))))
     -- crep_new
     ∷ by-parts (whole 1 crepulanter.crep_new.Kinds.ps crepulanter.crep_new.Kinds.r crepulanter.crep_new.Reads.Post)
-    (λ κs input r r′ left left′ p q i. (same (p .returned) (q .returned) i, (same (p .state) (q .state) i, (tt, (tt, tt)))))
+    (λ κs input r r′ left left′ p q i. (both (p .returned) (q .returned) i, (both (p .state) (q .state) i, (tt, (tt, tt)))))
     -- crep_event
     ∷ by-parts (whole 3 crepulanter.crep_event.Kinds.ps crepulanter.crep_event.Kinds.r crepulanter.crep_event.Reads.Post)
-    (λ κs input r r′ left left′ p q i. (same (p .returned) (q .returned) i, (same (p .state) (q .state) i, (same (p .array) (q .array) i, (tt, (same (p .answered) (q .answered) i, tt))))))
+    (λ κs input r r′ left left′ p q i. (both (p .returned) (q .returned) i, (both (p .state) (q .state) i, (both (p .array) (q .array) i, (tt, (both (p .answered) (q .answered) i, tt))))))
     -- crep_run
     ∷ by-parts (whole 4 crepulanter.crep_run.Kinds.ps crepulanter.crep_run.Kinds.r crepulanter.crep_run.Reads.Post)
-    (λ κs input r r′ left left′ p q i. (same (p .returned) (q .returned) i, (same (p .state) (q .state) i, (same (p .array) (q .array) i, (tt, (same (p .answers) (q .answers) i, tt))))))
+    (λ κs input r r′ left left′ p q i. (both (p .returned) (q .returned) i, (both (p .state) (q .state) i, (both (p .array) (q .array) i, (tt, (both (p .answers) (q .answers) i, tt))))))
     -- crep_recover
     ∷ by-parts (whole 3 crepulanter.crep_recover.Kinds.ps crepulanter.crep_recover.Kinds.r crepulanter.crep_recover.Reads.Post)
-    (λ κs input r r′ left left′ p q i. (same (p .returned) (q .returned) i, (same (p .state) (q .state) i, (same (p .array) (q .array) i, (tt, (same (p .pulsed) (q .pulsed) i, tt))))))
+    (λ κs input r r′ left left′ p q i. (both (p .returned) (q .returned) i, (both (p .state) (q .state) i, (both (p .array) (q .array) i, (tt, (both (p .pulsed) (q .pulsed) i, tt))))))
     -- crep_record_write
     ∷ by-parts (whole 2 crepulanter.crep_record_write.Kinds.ps crepulanter.crep_record_write.Kinds.r crepulanter.crep_record_write.Reads.Post)
-    (λ κs input r r′ left left′ p q i. (same (p .0) (q .0) i, (same (p .1) (q .1) i, (tt, (tt, (tt, tt))))))
+    (λ κs input r r′ left left′ p q i. (both (p .0) (q .0) i, (both (p .1) (q .1) i, (tt, (tt, (tt, tt))))))
     -- crep_record_limits
     ∷ by-parts (whole 1 crepulanter.crep_record_limits.Kinds.ps crepulanter.crep_record_limits.Kinds.r crepulanter.crep_record_limits.Reads.Post)
-    (λ κs input r r′ left left′ p q i. (same (p .0) (q .0) i, (same (p .1) (q .1) i, (tt, (tt, tt)))))
+    (λ κs input r r′ left left′ p q i. (both (p .0) (q .0) i, (both (p .1) (q .1) i, (tt, (tt, tt)))))
     -- crep_record_read
     ∷ by-parts (whole 6 crepulanter.crep_record_read.Kinds.ps crepulanter.crep_record_read.Kinds.r crepulanter.crep_record_read.Reads.Post)
-    (λ κs input r r′ left left′ p q i. (same (p .returned) (q .returned) i, (tt, (same (p .shut) (q .shut) i, (same (p .wide) (q .wide) i, (same (p .between) (q .between) i, (same (p .labelled) (q .labelled) i, (same (p .unused) (q .unused) i, tt))))))))
+    (λ κs input r r′ left left′ p q i. (both (p .returned) (q .returned) i, (tt, (both (p .shut) (q .shut) i, (both (p .wide) (q .wide) i, (both (p .between) (q .between) i, (both (p .labelled) (q .labelled) i, (both (p .unused) (q .unused) i, tt))))))))
     -- crep_name
     ∷ by-parts (whole 5 crepulanter.crep_name.Kinds.ps crepulanter.crep_name.Kinds.r crepulanter.crep_name.Reads.Post)
-    (λ κs input r r′ left left′ p q i. (same (p .returned) (q .returned) i, (tt, (tt, (same (p .first) (q .first) i, (same (p .counted) (q .counted) i, (same (p .within) (q .within) i, tt)))))))
+    (λ κs input r r′ left left′ p q i. (both (p .returned) (q .returned) i, (tt, (tt, (both (p .first) (q .first) i, (both (p .counted) (q .counted) i, (both (p .within) (q .within) i, tt)))))))
     ∷ []

@@ -10,7 +10,7 @@
 -- | `loud`, `told` | the notes other than 0, in order; those of wires |
 -- | `reads address n` | the n bytes that a random read gives |
 -- | `fresh part` | a new chip of a part with select 0, over an array of FFh |
--- | `enabled`, `locking byte` | the same with PEL set; the same with PPEN and BL written, the cycle done |
+-- | `pelSet`, `locking byte` | the same with PEL set; the same with PPEN and BL written, the cycle done |
 -- | `changes` | the addresses at which two arrays differ |
 -- | `buffer`, `north`, `travelled` | a free record as a buffer; the label of case 4; the travel that a written record is read with |
 -- | `begins` | a lock begins at an address |
@@ -93,12 +93,12 @@ abbrev pub fresh : ℕ → World
 fresh part = world (newChip part 0) erased
 
 -- register byte 02h sets PEL
-abbrev pub enabled : World → World
-enabled w = sent (registerWrite 0 0x02) w
+abbrev pub pelSet : World → World
+pelSet w = sent (registerWrite 0 0x02) w
 
 -- 02h, 06h, the byte, and the program-done that ends its cycle
 abbrev pub locking : ℕ → World → World
-locking byte w = step ProgramDone (sent (registerWrite 0 byte) (sent (registerWrite 0 0x06) (enabled w)))
+locking byte w = step ProgramDone (sent (registerWrite 0 byte) (sent (registerWrite 0 0x06) (pelSet w)))
 
 -- the same from an address on; where one array ends before the other, that is a change
 abbrev changesFrom : ℕ → List ℕ → List ℕ → List ℕ
@@ -158,7 +158,7 @@ case-5 =
 -- 6. X24128, unlocked, PEL 1, 27 bytes at 0006h: bytes 6-31 and byte 0 change, and no other of the array; they are the 27; counter 0001h
 abbrev pub case-6 : Bool
 case-6 =
-    let after : World = sent (message 0 0x0006 (upFrom 27 1)) (enabled (fresh 0)) in
+    let after : World = sent (message 0 0x0006 (upFrom 27 1)) (pelSet (fresh 0)) in
     agree (changes erased (after .array)) (0 ∷ upFrom 26 6)
     && agree (take 32 (after .array)) (27 ∷ replicate 5 0xff ++ upFrom 26 1)
     && eqb (after .chip .counter) 0x0001
@@ -166,7 +166,7 @@ case-6 =
 -- 7. X24F128: 31 bytes note 5, 32 note 1, 33 note 5
 abbrev pub case-7 : Bool
 case-7 =
-    let before : World = enabled (fresh 1) in
+    let before : World = pelSet (fresh 1) in
     agree (told (message 0 0x0000 (upFrom 31 1)) before) (5 ∷ [])
     && agree (told (message 0 0x0000 (upFrom 32 1)) before) (1 ∷ [])
     && agree (told (message 0 0x0000 (upFrom 33 1)) before) (5 ∷ [])
@@ -240,7 +240,7 @@ error-2 = agree (notes (PowerUp ∷ samples false (registerWrite 0 0x02)) (fresh
 
 -- A load that runs on into the next sector, or writes unloaded places: 27 bytes at 0026h change 0020h and 0026h-003Fh and no others
 abbrev pub error-3 : Bool
-error-3 = agree (changes erased (sent (message 0 0x0026 (upFrom 27 1)) (enabled (fresh 0)) .array)) (0x0020 ∷ upFrom 26 0x0026)
+error-3 = agree (changes erased (sent (message 0 0x0026 (upFrom 27 1)) (pelSet (fresh 0)) .array)) (0x0020 ∷ upFrom 26 0x0026)
 
 -- the STOP is the last of 77 events
 abbrev pub pinAtStop : Bool → Bool → ℕ → List Event
@@ -250,7 +250,7 @@ pinAtStop until at byte = samples until (take 76 (registerWrite 0 byte)) ++ samp
 -- low at the STOP alone, and not where it is high at the STOP alone
 abbrev pub error-4 : Bool
 error-4 =
-    let protected : World = step ProgramDone (ran (samples true (registerWrite 0 0x8a)) (sent (registerWrite 0 0x06) (enabled (fresh 0)))) in
+    let protected : World = step ProgramDone (ran (samples true (registerWrite 0 0x8a)) (sent (registerWrite 0 0x06) (pelSet (fresh 0)))) in
     let ready : World = sent (registerWrite 0 0x06) protected in
     protected .chip .register .ppen
     && agree (loud (notes (pinAtStop true false 0x02) ready)) (2 ∷ [])

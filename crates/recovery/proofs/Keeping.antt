@@ -29,8 +29,8 @@ abbrev pub Keeps : World → World → Type 0
 Keeps w v = Fixed w (v .chip .part) (v .chip .select) (v .chip .register) (v .chip .busy) (v .array)
 
 -- each world keeps its own
-abbrev pub same : (w : World) → Keeps w w
-same w = record { part = refl; select = refl; register = refl; busy = refl; array = refl }
+abbrev pub itself : (w : World) → Keeps w w
+itself w = record { part = refl; select = refl; register = refl; busy = refl; array = refl }
 
 -- one step after another
 pub and-then : (u v w : World) → Keeps u v → Keeps v w → Keeps u w

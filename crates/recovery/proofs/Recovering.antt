@@ -15,13 +15,13 @@ use Rattle.chip.proofs.Posed.{posed-so}
 use Rattle.chip.proofs.RangeLaws.{next-fits}
 use Rattle.recovery.specs.Recovery.{pulse, pulsed, freed, recovered}
 use Rattle.recovery.specs.Pulses.{afterPulses, Unchanged}
-use Rattle.recovery.proofs.Keeping.{Keeps, same, and-then, worldWith, pulse-keeps, start-edge, start-keeps}
+use Rattle.recovery.proofs.Keeping.{Keeps, itself, and-then, worldWith, pulse-keeps, start-edge, start-keeps}
 use Rattle.recovery.proofs.TenPulses.{Counted, counted, ten-pulses}
 
 -- pulses keep what one pulse keeps
 pulses-keep : (n : ℕ) (pin : Bool) (w : World) → Keeps w (afterPulses n pin w)
 unfolding afterPulses
-pulses-keep zero pin w = same w
+pulses-keep zero pin w = itself w
 pulses-keep (suc n) pin w = and-then w (pulse pin w) (afterPulses n pin (pulse pin w)) (pulse-keeps pin w) (pulses-keep n pin (pulse pin w))
 
 -- they end with SCL high

@@ -18,20 +18,12 @@ sample-spec =
     (λ c κs. search needs)
     (λ c κs. search needs)
     (λ c. search needs)
-    (λ c. (
-      rw (
-        c .settled2 .ensures,
-        c .before .before .before .react .ensures .0,
-        c .before .before .before .before .before .edge-of .ensures,
-        c .before .before .before .before .before .before .line-of .ensures,
-        c .before .before .before .before .before .before .before .pulls .ensures,
-        c .before .before .before .before .before .before .before .before .if1 .left,
-      ),
-      rw (
-        c .before .before .before .react .ensures .1,
-        c .before .before .before .before .before .edge-of .ensures,
-        c .before .before .before .before .before .before .line-of .ensures,
-        c .before .before .before .before .before .before .before .pulls .ensures,
-        c .before .before .before .before .before .before .before .before .if1 .left,
-      ),
+    (λ c.
+    let reacted = c .before .before .before in
+    let edged = reacted .before .before in
+    let lined = edged .before in
+    let pulled = lined .before in
+    let idle = pulled .before .if1 .left in (
+      rw (c .settled2 .ensures, reacted .react .ensures .0, edged .edge-of .ensures, lined .line-of .ensures, pulled .pulls .ensures, idle),
+      rw (reacted .react .ensures .1, edged .edge-of .ensures, lined .line-of .ensures, pulled .pulls .ensures, idle),
     )))

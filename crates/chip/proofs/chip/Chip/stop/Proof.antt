@@ -20,7 +20,17 @@ stop-spec =
     (λ c. search needs)
     (λ c κs. search needs)
     (λ c κs. search needs)
-    (λ c. (simp (c .empty-at .ensures, sym (c .before .before .before .before .stop-effect .ensures) ∙ c .before .before .effect .given .1), simp (sym (c .before .before .before .before .stop-effect .ensures) ∙ c .before .before .effect .given .1)))
-    (λ c. (simp (c .before .none .ensures, sym (c .before .before .before .before .before .stop-effect .ensures) ∙ c .before .before .before .effect2 .given .1), simp (sym (c .before .before .before .before .before .stop-effect .ensures) ∙ c .before .before .before .effect2 .given .1)))
+    (λ c.
+    let effect = sym (c .before .before .before .before .stop-effect .ensures) ∙ c .before .before .effect .given .1 in
+    (simp (c .empty-at .ensures, effect), simp effect))
+    (λ c.
+    let told = c .before .before .before in
+    let effect = sym (told .before .before .stop-effect .ensures) ∙ told .effect2 .given .1 in
+    (simp (c .before .none .ensures, effect), simp effect))
     (λ c. search needs)
-    (λ c. (simp (c .none2 .ensures, sym (c .before .before .before .before .before .before .before .before .before .before .stop-effect .ensures) ∙ c .before .before .before .before .before .before .before .before .effect3 .given .1), simp (c .before .before .before .store .ensures, c .before .before .before .before .before .before .sector-start .ensures, sym (c .before .before .before .before .before .before .before .before .before .before .stop-effect .ensures) ∙ c .before .before .before .before .before .before .before .before .effect3 .given .1))))
+    (λ c.
+    let stored = c .before .before .before in
+    let started = stored .before .before .before in
+    let told = started .before .before in
+    let effect = sym (told .before .before .stop-effect .ensures) ∙ told .effect3 .given .1 in
+    (simp (c .none2 .ensures, effect), simp (stored .store .ensures, started .sector-start .ensures, effect))))
