@@ -9,10 +9,11 @@ use borrow.Author.Tests.{leb-true}
 use lib.Dec.{leb}
 use lib.ListN.{length, getD, take, drop}
 use lib.Seq.{take-all}
-use Rattle.gate.proofs.Truth.{and-left, and-right}
+use Rattle.parts.proofs.CondLaws.{and-left, and-right}
 use Rattle.chip.specs.declared.chip.Chip.{Chip}
 use Rattle.crepulanter.specs.At as at
 use Rattle.crepulanter.specs.Clean.{carriesBits, carriesHigh, cleared, Clean}
+use Rattle.parts.specs.Rows.{every}
 use Rattle.crepulanter.specs.State.{row, flagOf, flagByte, phaseOf, phaseBytes, allFlags, headFlags, bytesFit, chipOf, headBytes, bytesOf}
 use Rattle.crepulanter.proofs.RoundTrip.{chip-back, packed-length, packed-fit}
 use Rattle.crepulanter.proofs.Rows.{row-part}
@@ -47,7 +48,7 @@ byte-back (suc (suc x)) h =
     absurd (omega arith)
 
 bytes-back : (l : List ℕ) → allFlags l ≡ true → map flagByte (map flagOf l) ≡ l
-unfolding allFlags
+unfolding every
 bytes-back [] h = refl
 bytes-back (x ∷ l) h =
     ap₂ (λ (y : ℕ) (r : List ℕ). y ∷ r) (byte-back x (and-left (leb x 1) (allFlags l) h)) (bytes-back l (and-right (leb x 1) (allFlags l) h))

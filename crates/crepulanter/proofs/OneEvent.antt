@@ -6,11 +6,11 @@ use mathlib.Core.List.{List, [], _∷_}
 use borrow.Author.Tests.{eqb-true, eqb-false, ne-eqb}
 use lib.Dec.{leb, eqb}
 use lib.ListN.{getD}
-use Rattle.chip.specs.Event.{refusal, next, nextArray}
 use Rattle.parts.specs.Rows.{every, stepped}
+use Rattle.chip.specs.Event.{refusal, next, nextArray}
 use Rattle.chip.specs.Run.{step, noteOf}
 use Rattle.chip.specs.declared.chip.Chip.{Chip}
-use Rattle.trace.specs.Bytes.{eventOf, allEvents, answerByte}
+use Rattle.trace.specs.Bytes.{eventOf, answerByte}
 use Rattle.trace.specs.Trace.{after, answersOf, runRefusal, unless, ranOf, runArray, runAnswers}
 use Rattle.crepulanter.specs.Calls.{checked, eventRefusal, runNumber, EventSays, RunSays}
 use Rattle.crepulanter.specs.State.{bytesFit, chipOf}

@@ -14,6 +14,7 @@ use Rattle.parts.specs.declared.phase.Phase.{Phase}
 use Rattle.parts.specs.declared.phase.Phase.the-variants.{Standby, Slave, First, Second, Data, AckWrite, AckRead, AckFirst, AckByte, Sending, Waiting, Next}
 use Rattle.chip.specs.declared.chip.Chip.{Chip}
 use Rattle.crepulanter.specs.At as at
+use Rattle.parts.specs.Rows.{every}
 use Rattle.crepulanter.specs.State.{row, flagOf, flagByte, phaseOf, phaseBytes, allFlags, bytesFit, chipOf, headBytes, bytesOf}
 use Rattle.crepulanter.proofs.Rows.{row-part}
 
@@ -65,7 +66,7 @@ flags-back [] = refl
 flags-back (on ∷ l) = ap₂ (λ (x : Bool) (r : List Bool). x ∷ r) (flag-back on) (flags-back l)
 
 flags-fit : (l : List Bool) → allFlags (map flagByte l) ≡ true
-unfolding allFlags
+unfolding every
 flags-fit [] = refl
 flags-fit (on ∷ l) = rw (flag-fits on, flags-fit l)
 
@@ -124,6 +125,6 @@ module _ (c : Chip) (places : length (c .load .places) ≡ 32) (bytes : length (
 
   -- and its bytes fit
   pub packed-fit : bytesFit (bytesOf c) ≡ true
-  unfolding bytesFit allFlags bytesOf headBytes flags
+  unfolding bytesFit every bytesOf headBytes flags
   packed-fit =
       simp (flag-fits, phase-fits, packed-places, flags-fit)

@@ -9,6 +9,7 @@ use native.Mathlib.Omega.{arith}
 use lib.Dec.{leb}
 use lib.ListN.{length, getD, take, drop, length-drop, drop-of-length-le}
 use lib.Seq.{length-take-le, drop-cons, getD-take, getD-drop, ext-getD}
+use Rattle.parts.specs.Rows.{every}
 use Rattle.crepulanter.specs.State.{row, allFlags}
 
 -- a row has its length, and its k-th byte stands k further on
@@ -41,13 +42,13 @@ pub flags-more :
     → x ≡ getD r k 0
     → (fit && allFlags (drop k r)) ≡ allFlags r
     → ((fit && leb x 1) && allFlags (drop (k + 1) r)) ≡ allFlags r
-unfolding allFlags
+unfolding every
 flags-more r k x fit h e before =
     and-assoc fit (leb x 1) (allFlags (drop (k + 1) r))
     ∙ ap (λ (t : Bool). fit && t) (rw (add-one, e) (ap allFlags (sym (drop-cons r k 0 h))))
     ∙ before
 
 pub flags-end : (r : List ℕ) (k : ℕ) (fit : Bool) → length r ≤ k → (fit && allFlags (drop k r)) ≡ allFlags r → fit ≡ allFlags r
-unfolding allFlags
+unfolding every
 flags-end r k fit h before =
     sym (and-true fit) ∙ ap (λ (l : List ℕ). fit && allFlags l) (sym (drop-of-length-le r h)) ∙ before

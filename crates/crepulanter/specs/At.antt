@@ -1,4 +1,5 @@
 -- Where each field of a chip stands in its bytes, in the order of the C struct. A field that is added stands behind the load.
+-- (RULES K1.)
 --
 -- | Name | Meaning |
 -- |---|---|

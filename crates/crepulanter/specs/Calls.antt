@@ -1,4 +1,5 @@
 -- What each function of a chip answers to C: the number that it returns, and what every lent byte holds afterwards.
+-- (RULES K3-K5, O1-O3, O8-O10.)
 --
 -- | Name | Meaning |
 -- |---|---|
@@ -21,34 +22,36 @@ use Rattle.trace.specs.Bytes.{eventOf, answerByte}
 use Rattle.trace.specs.Trace.{unless, ranOf, runArray, runAnswers}
 use Rattle.crepulanter.specs.State.{bytesFit, chipOf, bytesOf}
 
--- a phase above 11 or a flag that is neither 0 nor 1 is refusal 2, after 1
+-- K3: a phase above 11 or a flag that is neither 0 nor 1 is refusal 2, after 1
 unfoldable pub unfit : List ℕ → ℕ
-unfit xs = cond (eqb (length xs) 16384) 2 1
+unfit xs = cond (eqb (length xs) 0x4000) 2 1
 
--- one event checks 1, 2 and then 6
+-- O8: one event checks 1, 2 and then 6
 abbrev pub checked : ℕ → ℕ → ℕ
 checked number event = cond (eqb number 0) (cond (leb event 9) 0 6) number
 
+-- K3, O8: the same by the chip's bytes
 unfoldable pub eventRefusal : List ℕ → List ℕ → ℕ → ℕ
 eventRefusal b xs event = cond (bytesFit b) (checked (refusal (chipOf b) xs) event) (unfit xs)
 
--- a trace checks 1, 2, 4, 5, 6
+-- K3, O3: a trace checks 1, 2, 4, 5, 6
 unfoldable pub runNumber : List ℕ → List ℕ → List ℕ → List ℕ → ℕ
 runNumber b xs trace old = cond (bytesFit b) (ranOf (chipOf b) xs trace old .refusal) (unfit xs)
 
--- recovery checks 1, 2; any pin level but 0 is high
+-- K5: any pin level but 0 is high
 abbrev pub pinOf : ℕ → Bool
 pinOf pin = not (eqb pin 0)
 
+-- K3, O2: recovery checks 1, 2
 unfoldable pub recoverNumber : List ℕ → List ℕ → ℕ → ℕ
 recoverNumber b xs pin = cond (bytesFit b) (recoveryAnswer (pinOf pin) (chipOf b) xs .refusal) (unfit xs)
 
--- a new chip, or the standard chip with 3
+-- K4: a new chip, or the standard chip with 3
 pub record NewSays (part select : ℕ) (r : ℕ) (b′ : List ℕ) : Type 0 where
   pub returned : r ≡ made part select .refusal
   pub state : b′ ≡ bytesOf (made part select .chip)
 
--- one event; a refusal leaves chip and array and answers 1: line high, note 0
+-- K4: one event; a refusal leaves chip and array and answers 1: line high, note 0
 pub record EventSays (b xs : List ℕ) (event : ℕ) (r : ℕ) (b′ xs′ : List ℕ) (answer : ℕ) : Type 0 where
   pub returned : r ≡ eventRefusal b xs event
   pub state : b′ ≡ unless (eventRefusal b xs event) b (bytesOf (next (eventOf event) (chipOf b) xs .chip))
@@ -59,14 +62,14 @@ pub record EventSays (b xs : List ℕ) (event : ℕ) (r : ℕ) (b′ xs′ : Lis
       1
       (answerByte (next (eventOf event) (chipOf b) xs .chip .line) (next (eventOf event) (chipOf b) xs .note))
 
--- a trace; a refusal leaves chip, array and answers
+-- K4: a trace; a refusal leaves chip, array and answers
 pub record RunSays (b xs trace old : List ℕ) (r : ℕ) (b′ xs′ told : List ℕ) : Type 0 where
   pub returned : r ≡ runNumber b xs trace old
   pub state : b′ ≡ unless (runNumber b xs trace old) b (bytesOf (ranOf (chipOf b) xs trace old .chip))
   pub array : xs′ ≡ cond (bytesFit b) (runArray (chipOf b) xs trace old) xs
   pub answers : told ≡ cond (bytesFit b) (runAnswers (chipOf b) xs trace old) old
 
--- recovery; a refusal leaves chip and array and reports 0 pulses
+-- K4: recovery; a refusal leaves chip and array and reports 0 pulses
 pub record RecoverSays (b xs : List ℕ) (pin : ℕ) (r : ℕ) (b′ xs′ : List ℕ) (pulses : ℕ) : Type 0 where
   pub returned : r ≡ recoverNumber b xs pin
   pub state : b′ ≡ unless (recoverNumber b xs pin) b (bytesOf (recoveryAnswer (pinOf pin) (chipOf b) xs .chip))

@@ -1,4 +1,5 @@
--- What a phase carries, and the bytes of a chip with all else cleared: the form in which a call that is taken leaves them.
+-- What a phase carries, and the bytes of a chip with all else cleared: the form in which a call that is taken leaves
+-- them. (RULES K2.)
 --
 -- | Name | Meaning |
 -- |---|---|
@@ -23,7 +24,7 @@ carriesBits phase = leb 1 phase && leb phase 4 || eqb phase 9
 unfoldable pub carriesHigh : ℕ → Bool
 carriesHigh phase = eqb phase 3 || eqb phase 7
 
--- a field that the phase does not carry comes back as 0
+-- K2: a field that the phase does not carry comes back as 0
 unfoldable pub cleared : List ℕ → List ℕ
 cleared b =
     take at.bits b
@@ -32,6 +33,7 @@ cleared b =
     ∷ cond (carriesHigh (getD b at.phase 0)) (getD b at.high 0) 0
     ∷ drop at.count b)
 
+-- K2: what packing a chip gives
 pub record Clean (b : List ℕ) : Type 0 where
   pub sized : length b ≡ at.size
   pub fit : bytesFit b ≡ true

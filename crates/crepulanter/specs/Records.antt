@@ -1,5 +1,5 @@
 -- What reading a record and naming a gate answer to C. Writing answers as the gate's own `writeOf` and `writtenOf` say, and new limits as
--- its `limitsOf` and `limitedOf`.
+-- its `limitsOf` and `limitedOf`. (RULES K4, K6-K8.)
 --
 -- | Name | Meaning |
 -- |---|---|
@@ -14,6 +14,7 @@ use Rattle.gate.specs.Naming.{spanOf}
 use Rattle.gate.specs.Reading.{readOf}
 use Rattle.crepulanter.specs.State.{flagByte}
 
+-- K4, K6: a refusal answers zeros
 pub record ReadSays (bytes : List ℕ) (r : ℕ) (closed opened travel : ℤ) (label free : ℕ) : Type 0 where
   pub returned : r ≡ givenOf (readOf bytes) .number
   pub shut : closed ≡ givenOf (readOf bytes) .closed
@@ -22,6 +23,7 @@ pub record ReadSays (bytes : List ℕ) (r : ℕ) (closed opened travel : ℤ) (l
   pub labelled : label ≡ givenOf (readOf bytes) .length
   pub unused : free ≡ flagByte (saysFree (readOf bytes))
 
+-- K7: it always answers
 pub record NameSays (bytes standard : List ℕ) (r start count own : ℕ) : Type 0 where
   pub returned : r ≡ 0
   pub first : start ≡ spanOf bytes standard .start

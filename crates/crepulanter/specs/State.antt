@@ -1,4 +1,4 @@
--- What the bytes of a chip mean, and which bytes a chip has; where each stands is in At.antt.
+-- What the bytes of a chip mean, and which bytes a chip has; where each stands is in At.antt. (RULES K1-K3.)
 --
 -- | Name | Meaning |
 -- |---|---|
@@ -13,11 +13,12 @@
 -- | `headBytes` | the bytes of a chip before its load's places |
 -- | `bytesOf` | the bytes of a chip |
 use Prim.Native.Nat.{ℕ, zero, suc, _+_, _*_, _/_, _%_}
-use mathlib.Core.Bool.{Bool, true, cond, _&&_}
+use mathlib.Core.Bool.{Bool, cond, _&&_}
 use mathlib.Core.List.{List, [], _∷_, _++_, map}
 use lib.Dec.{eqb, leb}
 use lib.ListN.{getD}
 use Rattle.parts.specs.Phase.{weight}
+use Rattle.parts.specs.Rows.{every}
 use Rattle.parts.specs.declared.phase.Phase.{Phase}
 use Rattle.parts.specs.declared.phase.Phase.the-variants.{Standby, Slave, First, Second, Data, AckWrite, AckRead, AckFirst, AckByte, Sending, Waiting, Next}
 use Rattle.chip.specs.declared.chip.Chip.{Chip}
@@ -28,14 +29,15 @@ unfoldable pub row : ℕ → ℕ → List ℕ → List ℕ
 row zero from b = []
 row (suc n) from b = getD b from 0 ∷ row n (suc from) b
 
--- a flag is 1 where it is set, 0 where it is not
+-- K1: a flag is 1 where it is set, 0 where it is not
 abbrev pub flagOf : ℕ → Bool
 flagOf byte = eqb byte 1
 
+-- K1, the other way
 abbrev pub flagByte : Bool → ℕ
 flagByte on = weight on 1
 
--- the phases of a transfer by number; each takes what it carries
+-- K1, K2: the phases of a transfer by number; each takes what it carries
 unfoldable pub phaseOf : ℕ → ℕ → ℕ → ℕ → Phase
 phaseOf number bits byte high =
     cond (eqb number 0) Standby
@@ -51,7 +53,7 @@ phaseOf number bits byte high =
     (cond (eqb number 10) Waiting
     Next))))))))))
 
--- number, bits, byte, high: a field that the phase does not carry is 0
+-- K1, K2: number, bits, byte, high; a field that the phase does not carry is 0
 unfoldable pub phaseBytes : Phase → List ℕ
 phaseBytes Standby = 0 ∷ 0 ∷ 0 ∷ 0 ∷ []
 phaseBytes (Slave bits got) = 1 ∷ bits ∷ got ∷ 0 ∷ []
@@ -66,12 +68,11 @@ phaseBytes (Sending bit byte) = 9 ∷ bit ∷ byte ∷ 0 ∷ []
 phaseBytes Waiting = 10 ∷ 0 ∷ 0 ∷ 0 ∷ []
 phaseBytes Next = 11 ∷ 0 ∷ 0 ∷ 0 ∷ []
 
--- a flag byte that is neither 0 nor 1 is refused
-unfoldable pub allFlags : List ℕ → Bool
-allFlags [] = true
-allFlags (byte ∷ bytes) = leb byte 1 && allFlags bytes
+-- K3: none is above 1
+abbrev pub allFlags : List ℕ → Bool
+allFlags bytes = every (λ byte. leb byte 1) bytes
 
--- PPEN, RPEL, PEL, the mark, busy, the last SCL, the last line
+-- K3: PPEN, RPEL, PEL, the mark, busy, the last SCL, the last line
 abbrev pub headFlags : List ℕ → List ℕ
 headFlags b =
     getD b at.ppen 0
@@ -83,10 +84,11 @@ headFlags b =
     ∷ getD b at.line 0
     ∷ []
 
--- a phase of 0-11, and flags that are flags
+-- K3: a phase of 0-11, and flags that are flags
 unfoldable pub bytesFit : List ℕ → Bool
 bytesFit b = leb (getD b at.phase 0) 11 && (allFlags (headFlags b) && allFlags (row 32 at.places b))
 
+-- K1, K2: each field from its offset
 unfoldable pub chipOf : List ℕ → Chip
 chipOf b =
     record {
@@ -113,7 +115,7 @@ chipOf b =
           };
     }
 
--- the bytes before the load, in the order of the C struct
+-- K1: the bytes before the load's places, in the order of the C struct
 unfoldable pub headBytes : Chip → List ℕ
 headBytes c =
     c .part
@@ -135,6 +137,6 @@ headBytes c =
     ∷ c .load .count
     ∷ []
 
--- and then the load's places and bytes
+-- K1: and then the load's places and bytes
 unfoldable pub bytesOf : Chip → List ℕ
 bytesOf c = headBytes c ++ (map flagByte (c .load .places) ++ c .load .bytes)

@@ -7,13 +7,14 @@ use native.Mathlib.Omega.{arith}
 use borrow.Author.Tests.{le-leb, lt-leb, eq-eqb, ne-eqb}
 use lib.ListN.{length, take, drop, length-append, length-take}
 use lib.Seq.{take-at}
+use Rattle.parts.specs.Sector.{erased}
 use Rattle.chip.specs.Run.{World, world, step}
 use Rattle.chip.specs.declared.chip.Chip.{Chip}
 use Rattle.parts.specs.Phase.{weight}
 use Rattle.trace.specs.Bytes.{eventOf, answerByte}
 use Rattle.trace.specs.Trace.{answersOf, runRefusal, runAnswers, ranOf, unless}
 use Rattle.trace.specs.declared.Ran.{Ran}
-use Rattle.report.specs.Report.{blank, answerText, reportOf}
+use Rattle.report.specs.Report.{answerText, reportOf}
 use Rattle.report.specs.Text.{put, numeral, noteIn, heading, eventsWord, linesFrom, countText, refusedText}
 use Rattle.report.proofs.TextLaws.{put-append, put-start, numeral-short, lines-short, refused-length}
 
@@ -92,10 +93,10 @@ reported c bytes text page same room long at = (
   at ∙ put-start page text room ∙ ap (λ (l : List ℕ). l ++ drop (length l) page) same,
 )
 
--- what was run on a blank array, and what was then put on a page
+-- what was run on a erased array, and what was then put on a page
 module _ (c : Chip) (bytes old page : List ℕ) {xs : List ℕ} {answered : Ran} (few : length bytes ≤ 4096) (room : length old ≡ 4096)
-    (whole : length page ≡ 32768) (all : xs ≡ blank) (e : answered ≡ ranOf c xs bytes old) where
-  number : answered .refusal ≡ runRefusal c blank bytes 4096
+    (whole : length page ≡ 32768) (all : xs ≡ erased) (e : answered ≡ ranOf c xs bytes old) where
+  number : answered .refusal ≡ runRefusal c erased bytes 4096
   unfolding ranOf
   number = ap (λ (a : Ran). a .refusal) e ∙ ap₂ (λ (ys : List ℕ) (k : ℕ). runRefusal c ys bytes k) all room
 
@@ -109,10 +110,10 @@ module _ (c : Chip) (bytes old page : List ℕ) {xs : List ℕ} {answered : Ran}
       → Reported c bytes page r after
   unfolding reportOf runAnswers unless
   reported-ran {told} zero said long at =
-      let none : runRefusal c blank bytes 4096 ≡ 0 = sym number ∙ zero in
-      let answers : take (length bytes) told ≡ answersOf bytes (world c blank) =
+      let none : runRefusal c erased bytes 4096 ≡ 0 = sym number ∙ zero in
+      let answers : take (length bytes) told ≡ answersOf bytes (world c erased) =
       ap (take (length bytes)) (said ∙ simp (all, room, none))
-      ∙ take-at (answersOf bytes (world c blank)) (drop (length bytes) old) (length bytes) (answers-all bytes (world c blank)) in
+      ∙ take-at (answersOf bytes (world c erased)) (drop (length bytes) old) (length bytes) (answers-all bytes (world c erased)) in
       let fits : length (answerText (take (length bytes) told)) ≤ length page =
       omega (arith, answers-room (take (length bytes) told) (simp length-take (omega arith))) in
       reported c bytes (answerText (take (length bytes) told)) page (simp (answers, none, le-leb _ _ few)) fits long at
@@ -126,7 +127,7 @@ module _ (c : Chip) (bytes old page : List ℕ) {xs : List ℕ} {answered : Ran}
       → Reported c bytes page r after
   unfolding reportOf
   reported-refused left long at =
-      let some : runRefusal c blank bytes 4096 ≡ 0 → ⊥ = λ z. left (number ∙ z) in
+      let some : runRefusal c erased bytes 4096 ≡ 0 → ⊥ = λ z. left (number ∙ z) in
       let fits : length (refusedText (answered .refusal)) ≤ length page = omega (arith, refused-room (answered .refusal)) in
       reported c bytes (refusedText (answered .refusal)) page (simp (number, ne-eqb _ _ some, le-leb _ _ few)) fits long at
 

@@ -1,4 +1,4 @@
--- Text as a list of bytes, and where it stands on a page.
+-- Text as a list of bytes, and where it stands on a page. (RULES P3-P7.)
 --
 -- | Name | Meaning |
 -- |---|---|
@@ -24,50 +24,56 @@ unfoldable pub put : List ℕ → ℕ → List ℕ → List ℕ
 put page at [] = page
 put page at (byte ∷ text) = put (set page at byte) (at + 1) text
 
+-- 0 is 30h
 abbrev pub glyph : ℕ → ℕ
 glyph n = 48 + n % 10
 
+-- the last digit comes last
 unfoldable pub digits : ℕ → ℕ → List ℕ
 digits zero n = []
 digits (suc k) n = digits k (n / 10) ++ (glyph n ∷ [])
 
+-- no leading zero
 unfoldable pub width : ℕ → ℕ
 width n = cond (ltb n 10) 1 (cond (ltb n 100) 2 (cond (ltb n 1000) 3 4))
 
+-- P4, P5: decimal
 unfoldable pub numeral : ℕ → List ℕ
 numeral n = digits (width n) n
 
--- position, one space, note; every line ends with a newline
+-- P4, P7: position, one space, note; every line ends with a newline
 unfoldable pub noteLine : ℕ → ℕ → List ℕ
 noteLine position note = numeral position ++ (0x20 ∷ (numeral note ++ (0x0a ∷ [])))
 
--- bits 1-3 of an answer byte
+-- B3: bits 1-3 of an answer byte
 abbrev pub noteIn : ℕ → ℕ
 noteIn answer = answer / 2 % 8
 
--- a line per event with a nonzero note
+-- P4: a line per event with a nonzero note
 unfoldable pub eventLine : ℕ → ℕ → List ℕ
 eventLine position answer = cond (eqb (noteIn answer) 0) [] (noteLine position (noteIn answer))
 
--- position from 0
+-- P4: position from 0
 unfoldable pub linesFrom : ℕ → List ℕ → List ℕ
 linesFrom position [] = []
 linesFrom position (answer ∷ answers) = eventLine position answer ++ linesFrom (position + 1) answers
 
--- `event note`, the heading
+-- P3: `event note`
 abbrev pub heading : List ℕ
 heading = 0x65 ∷ 0x76 ∷ 0x65 ∷ 0x6e ∷ 0x74 ∷ 0x20 ∷ 0x6e ∷ 0x6f ∷ 0x74 ∷ 0x65 ∷ 0x0a ∷ []
 
--- `N events`
+-- P5: `N events`
 abbrev pub eventsWord : List ℕ
 eventsWord = 0x20 ∷ 0x65 ∷ 0x76 ∷ 0x65 ∷ 0x6e ∷ 0x74 ∷ 0x73 ∷ 0x0a ∷ []
 
+-- P5: the number of events before it
 unfoldable pub countText : ℕ → List ℕ
 countText n = numeral n ++ eventsWord
 
--- `refused N`
+-- P6: `refused N`
 abbrev pub refusedWord : List ℕ
 refusedWord = 0x72 ∷ 0x65 ∷ 0x66 ∷ 0x75 ∷ 0x73 ∷ 0x65 ∷ 0x64 ∷ 0x20 ∷ []
 
+-- P6, P7: the number behind it
 unfoldable pub refusedText : ℕ → List ℕ
 refusedText number = refusedWord ++ (numeral number ++ (0x0a ∷ []))

@@ -5,7 +5,8 @@ ghost use mathlib.Core.List.{_++_};
 ghost use Prim.Native.Nat.{_+_, _≤_, _<_};
 ghost use lib.ListN.{length, take, drop};
 ghost use Rattle.report.specs.Text.{put, glyph, numeral, eventLine, linesFrom, refusedText};
-ghost use Rattle.report.specs.Report.{blank, reportOf, answerText};
+ghost use Rattle.parts.specs.Sector.{erased};
+ghost use Rattle.report.specs.Report.{reportOf, answerText};
 use chip::chip::Chip;
 
 // The last decimal digit of a number.
@@ -121,8 +122,8 @@ fn put_refused(page: &mut [u8; 32768], number: u8) -> usize
 }
 
 // An array of FFh.
-fn blank() -> [u8; Chip::BYTES]
-    ensures { λ r. ⌜ r ≡ blank ⌝ }
+fn erased() -> [u8; Chip::BYTES]
+    ensures { λ r. ⌜ r ≡ erased ⌝ }
 {
     [255; Chip::BYTES]
 }
@@ -133,7 +134,7 @@ pub fn write_report(chip: Chip, trace: &[u8], page: &mut [u8; 32768]) -> usize
     ensures { λ r. ⌜ now (page .exit) ≡ reportOf chip (now (trace .entry)) ++ drop (length (reportOf chip (now (trace .entry)))) (now (page .entry)) ⌝ }
 {
     if trace.len() <= 4096 {
-        let mut array = blank();
+        let mut array = erased();
         let mut answers = [0u8; 4096];
         let ran = trace::run(chip, &mut array, trace, &mut answers);
         if ran.refusal == 0 {

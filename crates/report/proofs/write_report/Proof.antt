@@ -16,7 +16,7 @@ returns c =
     let args = test .before .before .args in
     let few : length (now (args .trace)) ≤ 4096 = omega (arith, test .if1 .taken) in
     let put = c .put-answers .ensures in
-    reported-ran (args .chip) (now (args .trace)) (replicate 4096 0) (now (args .page)) few (length-replicate {A = ℕ} 4096 0) (put .1 .1) (run .before .before .before .blank .ensures) (run .run .ensures .0) (c .before .before .before .if2 .taken) (run .run .ensures .1 .1) (put .0) (put .1 .0)
+    reported-ran (args .chip) (now (args .trace)) (replicate 4096 0) (now (args .page)) few (length-replicate {A = ℕ} 4096 0) (put .1 .1) (run .before .before .before .erased .ensures) (run .run .ensures .0) (c .before .before .before .if2 .taken) (run .run .ensures .1 .1) (put .0) (put .1 .0)
 
 returns-2 : tie.Need-returns-2
 returns-2 c =
@@ -25,7 +25,7 @@ returns-2 c =
     let args = test .before .before .args in
     let few : length (now (args .trace)) ≤ 4096 = omega (arith, test .if1 .taken) in
     let put = c .put-refused .ensures in
-    reported-refused (args .chip) (now (args .trace)) (replicate 4096 0) (now (args .page)) few (length-replicate {A = ℕ} 4096 0) (put .1 .1) (run .before .before .before .blank .ensures) (run .run .ensures .0) (c .before .before .if2 .left) (put .0) (put .1 .0)
+    reported-refused (args .chip) (now (args .trace)) (replicate 4096 0) (now (args .page)) few (length-replicate {A = ℕ} 4096 0) (put .1 .1) (run .before .before .before .erased .ensures) (run .run .ensures .0) (c .before .before .if2 .left) (put .0) (put .1 .0)
 
 returns-3 : tie.Need-returns-3
 returns-3 c =
