@@ -4,7 +4,8 @@ use mathlib.Core.Bool.{Bool, true, false, cond}
 use mathlib.Core.Path.{_≡_, refl, sym, ap, ap₂, _∙_}
 use mathlib.Core.List.{List, [], _∷_, _++_}
 use native.Mathlib.Omega.{arith}
-use borrow.Author.Tests.{le-leb, lt-leb, eq-eqb, ne-eqb}
+use borrow.Author.Tests.{le-leb, lt-leb, leb-true, ne-eqb}
+use lib.Dec.{eqb, leb}
 use lib.ListN.{length, take, drop, length-append, length-take}
 use lib.Seq.{take-at}
 use Rattle.parts.specs.Sector.{erased}
@@ -69,6 +70,20 @@ pub answers-all : (bytes : List ℕ) (w : World) → length (answersOf bytes w) 
 unfolding answersOf
 answers-all [] w = refl
 answers-all (byte ∷ bytes) w = ap (λ (k : ℕ). suc k) (answers-all bytes (step (eventOf byte) w))
+
+-- so no report is longer, whatever the chip and the bytes
+room-by : (few taken : Bool) (a r : List ℕ) → (few ≡ true → length a ≤ 28695) → length r ≤ 28695 → length (cond few (cond taken a r) (refusedText 4)) ≤ 28695
+room-by true true a r long short = long refl
+room-by true false a r long short = short
+room-by false taken a r long short = refused-room 4
+
+pub report-room : (c : Chip) (bytes : List ℕ) → length (reportOf c bytes) ≤ 28695
+unfolding reportOf
+report-room c bytes =
+    let answers : List ℕ = answersOf bytes (world c erased) in
+    room-by (leb (length bytes) 4096) (eqb (runRefusal c erased bytes 4096) 0) (answerText answers) (refusedText (runRefusal c erased bytes 4096))
+    (λ few. answers-room answers (rw (answers-all bytes (world c erased)) (leb-true (length bytes) 4096 few)))
+    (refused-room (runRefusal c erased bytes 4096))
 
 -- a trace that is too long
 pub report-long : (c : Chip) (bytes : List ℕ) → 4096 < length bytes → refusedText 4 ≡ reportOf c bytes
