@@ -96,11 +96,9 @@ fn run_events(chip: Chip, array: &mut [u8], trace: &[u8], answers: &mut [u8]) ->
     let mut c = chip;
     let mut i: usize = 0;
     while i < trace.len() {
-        let before = c;
-        let moved = before.next(array, event_of(trace[i]));
-        let after = moved.chip;
-        answers[i] = answer_byte(after.line, moved.note);
-        c = after;
+        let moved = c.next(array, event_of(trace[i]));
+        c = moved.chip;
+        answers[i] = answer_byte(c.line, moved.note);
         i = i + 1;
     }
     c
