@@ -70,7 +70,7 @@ withLevels c scl line =
       load = c .load;
     }
 
--- F2: part 0-1, select 0-7, BL 0-3, counter 0-3FFFh, the phase's own, count 0-33
+-- F2: part 0-1, select 0-7, BL 0-3, counter 0-3FFFh, the phase's own where it carries them (reading), count 0-33
 unfoldable pub chipFits : Chip → Bool
 chipFits c =
     leb (c .part) 1
@@ -84,7 +84,8 @@ chipFits c =
 unfoldable pub pulls : Chip → Bool
 pulls c = not (c .busy) && phasePulls (c .phase)
 
--- U4: PPEN and BL outlive the supply; all else is cleared, with SCL low and the line high as the last levels
+-- U4, U5: PPEN and BL outlive the supply; all else is cleared, with SCL low and the line high as the last levels; a cycle in progress counts as
+-- finished (house)
 abbrev pub atPowerUp : ℕ → ℕ → Bool → ℕ → Chip
 atPowerUp part select ppen bl =
     record {

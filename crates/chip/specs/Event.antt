@@ -48,7 +48,7 @@ reactedArray Stop c pin xs = effectArray (stopEffect c pin) c xs
 reactedArray Rise c pin xs = xs
 reactedArray Fall c pin xs = xs
 
--- L2, L3: a sample is judged with the pull before it
+-- L2, L3: a sample is judged with the pull before it (reading)
 abbrev pub lineIn : Chip → Levels → Bool
 lineIn c s = lineOf (pulls c) (s .sda)
 
@@ -56,7 +56,7 @@ lineIn c s = lineOf (pulls c) (s .sda)
 abbrev pub edgeIn : Chip → Levels → Edge
 edgeIn c s = edgeOf (c .scl) (s .scl) (c .line) (lineIn c s)
 
--- U1: a busy chip ignores the edge, another reacts to it. The line is handed in: on wires that chips share it is not this chip's alone
+-- U1, U2: a busy chip ignores every edge, STARTs and STOPs too (house), another reacts to it. The line is handed in: on wires that chips share it is not this chip's alone
 unfoldable pub judged : Chip → List ℕ → Bool → Bool → Bool → Moved
 judged c xs scl line pin = cond (c .busy) (quiet c) (reacted (edgeOf (c .scl) scl (c .line) line) c line pin xs)
 
@@ -68,7 +68,7 @@ judgedArray c xs scl line pin = cond (c .busy) xs (reactedArray (edgeOf (c .scl)
 abbrev pub settled : Moved → Bool → Bool → Moved
 settled m scl line = moved (withLevels (m .chip) scl line) (m .note)
 
--- one chip on its wires: judged by the line with its pull before the sample, it keeps and reports the one with its pull after it
+-- L3, L6 (reading): one chip on its wires: judged by the line with its pull before the sample, it keeps and reports the one with its pull after it
 unfoldable pub sampled : Chip → List ℕ → Levels → Moved
 sampled c xs s =
     let m : Moved = judged c xs (s .scl) (lineIn c s) (s .pin) in

@@ -28,7 +28,7 @@ use Rattle.chip.specs.declared.chip.Effect.{Effect}
 use Rattle.chip.specs.declared.chip.Effect.the-variants.{Nothing, Change, Store}
 use Rattle.chip.specs.declared.chip.Moved.{Moved}
 
--- S3: the clock rose once after the last acknowledge: one bit of a data byte has come
+-- S3: the clock rose once after the last acknowledge: one bit of a data byte has come, whatever the bit (reading)
 unfoldable pub rightly : Phase → Bool
 rightly Standby = false
 rightly (Slave bits got) = false
@@ -43,14 +43,14 @@ rightly (Sending bit byte) = false
 rightly Waiting = false
 rightly Next = false
 
--- S7-S9: 1. a partial load on an X24F128, note 5; 2. a locked sector, note 4; 3. the store, note 1
+-- S7-S9: 1. a partial load on an X24F128, note 5 (reading: any 32 bytes are whole, wherever in the sector they began); 2. a locked sector, note 4; 3. the store, note 1
 unfoldable pub arrayEffect : Chip → Bool → Effect
 arrayEffect c pin =
     cond (partial (c .part) (c .load .count)) (Nothing 5)
     (cond (locked (c .part) (c .register .bl) pin (sectorStart (c .counter))) (Nothing 4)
     (Store 1))
 
--- S5, S6, S12: with no data byte nothing; with the mark a register byte, which is the load's place 0; else an array load
+-- S5, S6, S12: with no data byte nothing; with the mark a register byte, which is the load's place 0 (reading); else an array load
 unfoldable pub rightEffect : Chip → Bool → Effect
 rightEffect c pin =
     cond (eqb (c .load .count) 0) (Nothing 0)
@@ -73,7 +73,7 @@ effectMoved (Nothing note) c = moved (emptyAt c Standby) note
 effectMoved (Change w) c = moved (rested c (w .register) 0x0000 false (w .busy)) (w .note)
 effectMoved (Store note) c = moved (rested c (withRpel (c .register) false) (c .counter) (c .mark) true) note
 
--- S9, S10: only a store writes, and only in the counter's sector
+-- S9, S10: only a store writes, at the STOP (reading), and only in the counter's sector
 unfoldable pub effectArray : Effect → Chip → List ℕ → List ℕ
 effectArray (Nothing note) c xs = xs
 effectArray (Change w) c xs = xs

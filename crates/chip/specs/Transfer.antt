@@ -41,7 +41,7 @@ atPhase c phase = withTransfer c phase (c .counter) (c .mark) (c .load)
 abbrev pub emptyAt : Chip → Phase → Chip
 emptyAt c phase = withTransfer c phase (c .counter) (c .mark) noLoad
 
--- N7: it speaks of a load of one byte or more
+-- N7, C10: it speaks of a load of one byte or more (reading)
 abbrev pub dropNote : Chip → ℕ
 dropNote c = cond (eqb (c .load .count) 0) 0 7
 
@@ -53,18 +53,18 @@ started c = moved (emptyAt c (Slave 0 0)) (dropNote c)
 abbrev pub addressed : ℕ → ℕ → Bool
 addressed select byte = eqb (byte / 16) 0b1010 && eqb (byte / 2 % 8) select
 
--- T6, T7: bit 0 is R/W; a byte for another chip is not acknowledged and leads to standby
+-- T6, T7: bit 0 is R/W; a byte for another chip is not acknowledged and leads to standby; the counter and the mark stay (reading)
 unfoldable pub slaveTaken : Chip → ℕ → Chip
 slaveTaken c byte = atPhase c (cond (addressed (c .select) byte) (cond (eqb (byte % 2) 0) AckWrite AckRead) Standby)
 
--- T10, T11: FFFFh marks the register and leaves the counter; any other address is cut to 14 bits (house) and clears the mark
+-- T10, T11: FFFFh marks the register and leaves the counter (reading); any other address is cut to 14 bits (house) and clears the mark
 unfoldable pub addressTaken : Chip → ℕ → Chip
 addressTaken c address =
     cond (selects (c .part) address)
     (withTransfer c AckByte (c .counter) true (c .load))
     (withTransfer c AckByte (address % 0x4000) false (c .load))
 
--- T12-T14: refused while PEL is clear; else it joins the load and the counter goes on within its sector
+-- T12-T14: refused while PEL is clear, any load left as it is (reading); else it joins the load and the counter goes on within its sector
 unfoldable pub arrayData : Chip → ℕ → Moved
 arrayData c byte =
     quiet
@@ -72,14 +72,14 @@ arrayData c byte =
     (withTransfer c AckByte (nextPlace (c .counter)) (c .mark) (loaded (c .load) (c .counter) byte))
     (atPhase c Standby))
 
--- T15, T16: one register byte is kept; a second drops it with note 7 (house)
+-- T15, T16: one register byte is kept, PEL not asked (reading); a second drops it with note 7 (house)
 unfoldable pub registerData : Chip → ℕ → Moved
 registerData c byte =
     cond (eqb (c .load .count) 0)
     (quiet (withTransfer c AckByte (c .counter) (c .mark) (loaded (c .load) 0 byte)))
     (moved (emptyAt c Standby) 7)
 
--- T17: the array's byte at the counter; with the mark the register
+-- T17: the array's byte at the counter; with the mark, which decides at each byte (reading), the register
 abbrev pub nextByte : Chip → List ℕ → ℕ
 nextByte c xs = cond (marked (c .part) (c .mark)) (registerByte (c .register)) (getD xs (c .counter) 0)
 

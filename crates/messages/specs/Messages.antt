@@ -30,7 +30,7 @@ abbrev pub bytesSent : List ℕ → List Wires
 bytesSent [] = []
 bytesSent (byte ∷ bytes) = byteSent byte ++ bytesSent bytes
 
--- T5: the lowest bit is 1 for reading
+-- T5, T6: bits 3-1 are the select (house), the lowest bit is 1 for reading
 abbrev pub slaveByte : ℕ → Bool → ℕ
 slaveByte select reads = 0b1010 * 16 + select * 2 + weight reads 1
 

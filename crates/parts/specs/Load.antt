@@ -15,7 +15,7 @@ use lib.Dec.{ltb}
 use lib.ListN.{getD, set, replicate}
 use Rattle.parts.specs.declared.load.Load.{Load}
 
--- C10: zeros, no place loaded, count 0
+-- C10: zeros, no place loaded, count 0 (reading: after a START and a STOP in every case)
 abbrev pub noLoad : Load
 noLoad = record { bytes = replicate 32 0; places = replicate 32 false; count = 0 }
 

@@ -19,7 +19,7 @@ use Rattle.parts.specs.declared.phase.Phase.the-variants.{Standby, Slave
 abbrev pub weight : Bool → ℕ → ℕ
 weight on w = cond on w 0
 
--- T2: the most significant bit comes first; eight bits are kept
+-- T2: the most significant bit comes first; eight bits are kept (reading)
 abbrev pub received : ℕ → Bool → ℕ
 received got bit = (got * 2 + weight bit 1) % 256
 
@@ -27,7 +27,7 @@ received got bit = (got * 2 + weight bit 1) % 256
 abbrev pub bitOf : ℕ → ℕ → Bool
 bitOf byte bit = eqb (byte / 2 ^ (bit % 8) % 2) 1
 
--- C8: bits received are 0-8, the bit being sent is 0-7; nothing else in a phase has a range
+-- C8: bits received are 0-8, the bit being sent is 0-7; nothing else in a phase has a range (reading)
 unfoldable pub phaseFits : Phase → Bool
 phaseFits Standby = true
 phaseFits (Slave bits got) = leb bits 8
