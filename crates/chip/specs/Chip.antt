@@ -22,7 +22,7 @@ use Rattle.parts.specs.declared.register.Register.{Register}
 use Rattle.chip.specs.declared.chip.Chip.{Chip}
 use Rattle.chip.specs.declared.chip.Made.{Made}
 
--- what a transfer changes
+-- C3, C4, C7, C9: what a transfer changes
 abbrev pub withTransfer : Chip → Phase → ℕ → Bool → Load → Chip
 withTransfer c phase counter mark load =
     record {
@@ -38,7 +38,7 @@ withTransfer c phase counter mark load =
       load = load;
     }
 
--- what a cycle changes
+-- C2, C5: what a cycle changes
 abbrev pub withCycle : Chip → Register → Bool → Chip
 withCycle c register busy =
     record {
@@ -54,7 +54,7 @@ withCycle c register busy =
       load = c .load;
     }
 
--- what a sample leaves in every case
+-- C6: what a sample leaves in every case
 abbrev pub withLevels : Chip → Bool → Bool → Chip
 withLevels c scl line =
     record {
@@ -70,7 +70,7 @@ withLevels c scl line =
       load = c .load;
     }
 
--- F2: part 0-1, select 0-7, BL 0-3, counter 0-3FFFh, the phase's own where it carries them (reading), count 0-33
+-- C1-C3, C7-C9, F2: part 0-1, select 0-7, BL 0-3, counter 0-3FFFh, the phase's own where it carries them (reading), count 0-33
 unfoldable pub chipFits : Chip → Bool
 chipFits c =
     leb (c .part) 1
@@ -113,7 +113,7 @@ newChip part select = atPowerUp part select false 0
 abbrev pub standardChip : Chip
 standardChip = newChip 0 0
 
--- F3: for a part above 1 or a select above 7 refusal 3, with the standard chip
+-- F3, O1: for a part above 1 or a select above 7 refusal 3, with the standard chip
 unfoldable pub made : ℕ → ℕ → Made
 made part select =
     cond (leb part 1) (cond (leb select 7) (record { refusal = 0; chip = newChip part select }) (record { refusal = 3; chip = standardChip }))

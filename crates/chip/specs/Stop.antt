@@ -43,14 +43,14 @@ rightly (Sending bit byte) = false
 rightly Waiting = false
 rightly Next = false
 
--- S7-S9: 1. a partial load on an X24F128, note 5 (reading: any 32 bytes are whole, wherever in the sector they began); 2. a locked sector, note 4; 3. the store, note 1
+-- S7-S9, N1, N4, N5: 1. a partial load on an X24F128, note 5 (reading: any 32 bytes are whole, wherever in the sector they began); 2. a locked sector, note 4; 3. the store, note 1
 unfoldable pub arrayEffect : Chip → Bool → Effect
 arrayEffect c pin =
     cond (partial (c .part) (c .load .count)) (Nothing 5)
     (cond (locked (c .part) (c .register .bl) pin (sectorStart (c .counter))) (Nothing 4)
     (Store 1))
 
--- S5, S6, S12: with no data byte nothing; with the mark a register byte, which is the load's place 0 (reading); else an array load
+-- S5, S6, S12, N0: with no data byte nothing; with the mark a register byte, which is the load's place 0 (reading); else an array load
 unfoldable pub rightEffect : Chip → Bool → Effect
 rightEffect c pin =
     cond (eqb (c .load .count) 0) (Nothing 0)
@@ -67,7 +67,7 @@ stopEffect c pin =
 abbrev pub rested : Chip → Register → ℕ → Bool → Bool → Chip
 rested c register counter mark busy = withTransfer (withCycle c register busy) Standby counter mark noLoad
 
--- S9, S12, S16: a register byte clears counter and mark; a store clears RPEL and begins a cycle
+-- S9, S11, S12, S16: a register byte clears counter and mark; a store clears RPEL and begins a cycle
 unfoldable pub effectMoved : Effect → Chip → Moved
 effectMoved (Nothing note) c = moved (emptyAt c Standby) note
 effectMoved (Change w) c = moved (rested c (w .register) 0x0000 false (w .busy)) (w .note)

@@ -87,7 +87,7 @@ nextByte c xs = cond (marked (c .part) (c .mark)) (registerByte (c .register)) (
 unfoldable pub byteBegun : Chip → List ℕ → Chip
 byteBegun c xs = atPhase c (Sending 7 (nextByte c xs))
 
--- T19, T22: the chip lets go and the counter rises; the register is sent once, and then counter and mark are cleared
+-- T19, T22, T23: the chip lets go and the counter rises; the register is sent once, and then counter and mark are cleared
 unfoldable pub byteEnded : Chip → Chip
 byteEnded c =
     cond (marked (c .part) (c .mark))

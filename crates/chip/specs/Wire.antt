@@ -11,11 +11,12 @@ use Rattle.chip.specs.declared.wire.Edge.the-variants.{Quiet, Start, Sto
 use Rattle.chip.specs.declared.wire.Event.{Event}
 use Rattle.chip.specs.declared.wire.Event.the-variants.{Sample}
 
--- high where nobody pulls
+-- L2: high where nobody pulls
 abbrev pub lineOf : Bool → Bool → Bool
 lineOf pulls sda = not pulls && sda
 
--- with SCL high before and now the line tells a START or a STOP; where SCL changed, only that counts (house)
+-- L4, L5: with SCL high before and now the line tells a START or a STOP; where SCL changed, only that counts (house). L8, L9: a pull of
+-- the chip itself, or of a second master, is no exception (reading)
 unfoldable pub edgeOf : Bool → Bool → Bool → Bool → Edge
 edgeOf true true true false = Start
 edgeOf true true false true = Stop

@@ -1,4 +1,4 @@
--- Reading a record: what stands where, and the refusals in their order. (RULES G2-G7, G11-G14, O5.)
+-- Reading a record: what stands where, and the refusals in their order. (RULES G2-G7, G11-G14, F12-F14, O5.)
 --
 -- | Name | Meaning |
 -- |---|---|
@@ -68,7 +68,7 @@ goodOf bytes = Good (closedAt bytes) (openedAt bytes) (travelOf (closedAt bytes)
 unfoldable pub contentOf : List ℕ → Read
 contentOf bytes = cond (not (eqb (limitsRefusal (closedAt bytes) (openedAt bytes)) 0)) (Refused 14) (goodOf bytes)
 
--- O5, G11: reading checks 7, then free, then 12, 13, 14
+-- O5, F7, F12-F14, G11: reading checks 7, then free, then 12, 13, 14
 unfoldable pub readOf : List ℕ → Read
 readOf bytes =
     cond (not (eqb (length bytes) 32)) (Refused 7)

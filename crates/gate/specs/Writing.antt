@@ -1,4 +1,4 @@
--- Writing a record: the refusals in their order, and what the buffer holds afterwards. (RULES G15, G16, O4.)
+-- Writing a record: the refusals in their order, and what the buffer holds afterwards. (RULES G15, G16, F7-F11, O4.)
 --
 -- | Name | Meaning |
 -- |---|---|
@@ -14,7 +14,7 @@ use Rattle.gate.specs.Limit.{limitsRefusal}
 use Rattle.gate.specs.Label.{isLabel}
 use Rattle.gate.specs.Form.{recordOf}
 
--- O4, G15: writing a record checks 7, 8, 9, 10, 11
+-- O4, F7-F11, G15: writing a record checks 7, 8, 9, 10, 11
 unfoldable pub writeOf : List ℕ → ℤ → ℤ → List ℕ → ℕ
 writeOf buffer closed opened label =
     cond (not (eqb (length buffer) 32)) 7

@@ -11,7 +11,7 @@ use mathlib.Core.List.{List, [], _∷_}
 use lib.Dec.{leb}
 use lib.ListN.{getD}
 
--- the X24128, then the X24F128
+-- C12: the X24128, then the X24F128
 abbrev pub lockTable : List (List ℕ)
 lockTable =
     (0x4000 ∷ 0x3000 ∷ 0x2000 ∷ 0x0000 ∷ [])
@@ -22,6 +22,6 @@ lockTable =
 unfoldable pub firstLocked : ℕ → ℕ → ℕ
 firstLocked part bl = getD (getD lockTable part []) bl 0x4000
 
--- from the first locked address on; neither part asks the pin
+-- C12: from the first locked address on; neither part asks the pin
 abbrev pub locked : ℕ → ℕ → Bool → ℕ → Bool
 locked part bl pin address = leb (firstLocked part bl) address

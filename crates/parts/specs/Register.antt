@@ -14,7 +14,7 @@ use Rattle.parts.specs.Phase.{weight, bitOf}
 use Rattle.parts.specs.declared.register.Register.{Register}
 use Rattle.parts.specs.declared.register.Written.{Written}
 
--- from bit 7 down (T21): PPEN, 0, 0, BL1, BL0, RPEL, PEL, 0
+-- T21: from bit 7 down PPEN, 0, 0, BL1, BL0, RPEL, PEL, 0
 abbrev pub registerByte : Register → ℕ
 registerByte r = weight (r .ppen) 0x80 + r .bl % 4 * 8 + weight (r .rpel) 4 + weight (r .pel) 2
 
@@ -29,15 +29,15 @@ withPel r on = record { ppen = r .ppen; bl = r .bl; rpel = r .rpel; pel = on }
 abbrev pub withRpel : Register → Bool → Register
 withRpel r on = record { ppen = r .ppen; bl = r .bl; rpel = on; pel = r .pel }
 
--- PPEN and BL, which clears RPEL; PEL survives
+-- S16, S17: PPEN and BL, which clears RPEL; PEL survives
 abbrev pub withLocks : Register → Bool → ℕ → Register
 withLocks r ppen bl = record { ppen = ppen; bl = bl; rpel = false; pel = r .pel }
 
--- rule 1 (S13): a byte with bit 0, 5 or 6 set is refused with note 6
+-- S13, N6: rule 1, a byte with bit 0, 5 or 6 set is refused with note 6
 abbrev pub reserved : ℕ → Bool
 reserved byte = bitOf byte 0 || bitOf byte 5 || bitOf byte 6
 
--- rule 2 (S14), RPEL clear: 00h and 02h write PEL, 06h sets RPEL where PEL is set; note 3, and 6 for any other byte
+-- S14, N3, N6: rule 2, RPEL clear: 00h and 02h write PEL, 06h sets RPEL where PEL is set; note 3, and 6 for any other byte
 unfoldable pub latchWritten : Register → ℕ → Written
 latchWritten r byte =
     cond (eqb byte 0x00) (writtenAs (withPel r false) false 3)
@@ -45,7 +45,7 @@ latchWritten r byte =
     (cond (eqb byte 0x06 && r .pel) (writtenAs (withRpel r true) false 3)
     (writtenAs r false 6)))
 
--- rule 3 (S15, S16), RPEL set: low bits other than 010, or PPEN set and the pin high, are note 6; else PPEN and BL are written, RPEL is cleared
+-- S15, S16, N2, N6: rule 3, RPEL set: low bits other than 010, or PPEN set and the pin high, are note 6; else PPEN and BL are written, RPEL is cleared
 -- and a cycle begins, note 2
 unfoldable pub lockWritten : Register → ℕ → Bool → Written
 lockWritten r byte pin =

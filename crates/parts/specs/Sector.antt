@@ -11,15 +11,15 @@ use Prim.Native.Nat.{ℕ, _+_, _*_, _/_, _%_, _<_}
 use mathlib.Core.List.{List}
 use lib.ListN.{getD, replicate}
 
--- the address with its low five bits cleared
+-- C11: the address with its low five bits cleared
 abbrev pub sectorStart : ℕ → ℕ
 sectorStart address = address / 32 * 32
 
--- the low five bits rise by one and wrap, the rest stays
+-- T14: the low five bits rise by one and wrap, the rest stays
 abbrev pub nextPlace : ℕ → ℕ
 nextPlace address = address / 32 * 32 + (address + 1) % 32
 
--- modulo 16,384
+-- T19: modulo 16,384
 abbrev pub nextAddress : ℕ → ℕ
 nextAddress address = (address + 1) % 0x4000
 

@@ -228,17 +228,17 @@ worked =
     ∷ case 12 case-12
     ∷ []
 
--- Ten pulses taken for nine (case 11): after nine the line is low, after ten it is high
+-- M1: Ten pulses taken for nine (case 11): after nine the line is low, after ten it is high
 abbrev pub error-1 : Bool
 error-1 =
     let stopped : World = hung (wiresOf 2 ∷ []) in
     not (afterPulses 9 false stopped .chip .line) && afterPulses 10 false stopped .chip .line
 
--- A STOP taken as rightly placed only with no bit received, so no write ever ends: case 13, 78 events and note 3 at event 77
+-- M2: A STOP taken as rightly placed only with no bit received, so no write ever ends: case 13, 78 events and note 3 at event 77
 abbrev pub error-2 : Bool
 error-2 = agree (notes (PowerUp ∷ samples false (registerWrite 0 0x02)) (fresh 0)) (replicate 77 0 ++ (3 ∷ []))
 
--- A load that runs on into the next sector, or writes unloaded places: 27 bytes at 0026h change 0020h and 0026h-003Fh and no others
+-- M3: A load that runs on into the next sector, or writes unloaded places: 27 bytes at 0026h change 0020h and 0026h-003Fh and no others
 abbrev pub error-3 : Bool
 error-3 = agree (changes erased (sent (message 0 0x0026 (upFrom 27 1)) (pelSet (fresh 0)) .array)) (0x0020 ∷ upFrom 26 0x0026)
 
@@ -246,7 +246,7 @@ error-3 = agree (changes erased (sent (message 0 0x0026 (upFrom 27 1)) (pelSet (
 abbrev pub pinAtStop : Bool → Bool → ℕ → List Event
 pinAtStop until at byte = samples until (take 76 (registerWrite 0 byte)) ++ samples at (drop 76 (registerWrite 0 byte))
 
--- The protect pin read when PPEN was set and not at the STOP: PPEN was set with the pin high, and the register is then written where the pin is
+-- M4: The protect pin read when PPEN was set and not at the STOP: PPEN was set with the pin high, and the register is then written where the pin is
 -- low at the STOP alone, and not where it is high at the STOP alone
 abbrev pub error-4 : Bool
 error-4 =

@@ -1,4 +1,4 @@
--- Demand 3 of the workshop, part by part: the chip that it takes, what comes to that chip, and what it promises.
+-- Demand 3 of the workshop, part by part: the chip that it takes, what comes to that chip, and what it promises. (RULES D3.)
 --
 -- | Name | Meaning |
 -- |---|---|
@@ -76,7 +76,7 @@ theRead s w = spelled (s .pins) (randomRead (w .chip .select) (s .address) (s .n
 abbrev pub heard : Scene → World → List Bool
 heard s w = heardOf (s .pins) (randomRead (w .chip .select) (s .address) (s .n)) (atStart s w)
 
--- the chip before the noise, the noise, and where the read goes
+-- D3: the chip before the noise, the noise, and where the read goes
 pub record Protected (s : Scene) (w : World) : Type 0 where
   -- the chip is hardware-protected, and a region of it is locked
   pub ppen-set : w .chip .register .ppen ≡ true
@@ -87,7 +87,7 @@ pub record Protected (s : Scene) (w : World) : Type 0 where
   pub address-in : s .address ≤ 0x3fff
   pub stays-locked : (k : ℕ) → k < s .n → locked (w .chip .part) (w .chip .register .bl) true ((s .address + k) % 0x4000) ≡ true
 
--- the recovery, then the read
+-- D3: the recovery, then the read
 pub record Promised (s : Scene) (w : World) : Type 0 where
   -- ten pulses are enough to get a high line, and the number reported is that of the first
   pub line-high : FirstHigh (s .pin) (done s w) (free s w .pulses) (free s w .world)

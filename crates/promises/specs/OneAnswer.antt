@@ -1,4 +1,4 @@
--- One answer for one input: what a contract allows, and what it means that it leaves no room. (RULES D4.)
+-- One answer for one input: what a contract allows, and what it means that it leaves no room. (RULES D1, D2, D4.)
 --
 -- | Name | Meaning |
 -- |---|---|

@@ -16,7 +16,7 @@ unfoldable pub afterPulses : ℕ → Bool → World → World
 afterPulses zero pin w = w
 afterPulses (suc n) pin w = afterPulses n pin (pulse pin w)
 
--- the line is high there and was low after every pulse before; ten are enough
+-- R3, R4: the line is high there and was low after every pulse before; ten are enough
 pub record FirstHigh (pin : Bool) (w : World) (number : ℕ) (left : World) : Type 0 where
   pub at-least : 1 ≤ number
   pub at-most : number ≤ 10
@@ -24,7 +24,7 @@ pub record FirstHigh (pin : Bool) (w : World) (number : ℕ) (left : World) : Ty
   pub high : left .chip .line ≡ true
   pub low-before : (n : ℕ) → 1 ≤ n → n < number → afterPulses n pin w .chip .line ≡ false
 
--- counter, mark, load, phase and levels may differ
+-- R8: counter, mark, load, phase and levels may differ
 pub record Unchanged (before after : World) : Type 0 where
   pub array : after .array ≡ before .array
   pub register : after .chip .register ≡ before .chip .register

@@ -46,11 +46,11 @@ pulsed (suc left) k pin w =
 abbrev pub freed : Bool → World → Freed
 freed pin w = pulsed 9 1 pin w
 
--- R5: then the clock stays high and the data line is pulled: a start
+-- R5, R7: then the clock stays high and the data line is pulled: a start, which a busy chip ignores
 unfoldable pub recovered : Bool → World → World
 recovered pin w = step (sample true false pin) (freed pin w .world)
 
--- R6, O9: refused with 1 or 2: the chip as given, 0 pulses
+-- R1, R6, O2, O9: refused with 1 or 2: the chip as given, 0 pulses
 unfoldable pub recoveryAnswer : Bool → Chip → List ℕ → Recovered
 recoveryAnswer pin c xs =
     cond (eqb (refusal c xs) 0)

@@ -19,7 +19,7 @@ use Rattle.report.specs.Text.{heading, linesFrom, countText, refusedText
 unfoldable pub answerText : List ℕ → List ℕ
 answerText answers = heading ++ (linesFrom 0 answers ++ countText (length answers))
 
--- P2, P6: on an array of FFh. More than 4,096 events: `refused 4`; then what a trace refuses, with room for 4,096 answers; a refusal prints
+-- P1, P2, P6, O7: on an array of FFh. More than 4,096 events: `refused 4`; then what a trace refuses, with room for 4,096 answers; a refusal prints
 -- only `refused N`
 unfoldable pub reportOf : Chip → List ℕ → List ℕ
 reportOf c bytes =
