@@ -2,6 +2,7 @@ pub mod EventLaws
 pub mod FitLaws
 pub mod LockLaws
 pub mod Posed
+pub mod PullLaws
 pub mod RangeLaws
 pub mod RunLaws
 pub mod StepLaws

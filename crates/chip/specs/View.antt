@@ -14,6 +14,7 @@
 -- | `Guarded`, `GuardedBy` | part, select, PPEN, BL and the locked bytes are as before |
 -- | `Touched` | what an event that changed a byte says of it |
 -- | `SeesStart` | a chip that has just seen a START |
+-- | `Shows` | a chip whose pull is on its line |
 use Prim.Native.Nat.{ℕ, _%_, _≤_}
 use mathlib.Core.Bool.{Bool, true, false, _||_}
 use mathlib.Core.Path.{_≡_}
@@ -22,6 +23,7 @@ use lib.Dec.{eqb}
 use lib.ListN.{getD}
 use Rattle.parts.specs.Load.{noLoad, stored}
 use Rattle.parts.specs.Locks.{locked}
+use Rattle.parts.specs.Phase.{phasePulls}
 use Rattle.parts.specs.Register.{written, writtenAs, withPel, withRpel}
 use Rattle.parts.specs.Rows.{every}
 use Rattle.parts.specs.Sector.{sectorStart}
@@ -168,3 +170,7 @@ pub record SeesStart (c : Chip) : Type 0 where
   pub load : c .load ≡ noLoad
   pub scl : c .scl ≡ true
   pub line : c .line ≡ false
+
+-- A chip whose pull is on its line: in a phase that pulls it is not busy, and its last line is low
+abbrev pub Shows : Chip → Type 0
+Shows c = phasePulls (c .phase) ≡ true → (c .busy ≡ false) × (c .line ≡ false)

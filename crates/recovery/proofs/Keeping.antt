@@ -1,7 +1,7 @@
 -- What a pulse and a START keep: part, select, register, busy and the array, since neither is a STOP. Assumes nothing.
 use Prim.Native.Nat.{ℕ}
 use mathlib.Core.Bool.{Bool, true, false, cond}
-use mathlib.Core.Path.{_≡_, refl, ap, _∙_}
+use mathlib.Core.Path.{_≡_, refl, _∙_}
 use mathlib.Core.List.{List}
 use Rattle.parts.specs.declared.register.Register.{Register}
 use Rattle.chip.specs.Chip.{pulls}
@@ -12,6 +12,7 @@ use Rattle.chip.specs.Wire.{sample, lineOf, edgeOf}
 use Rattle.chip.specs.declared.wire.Edge.the-variants.{Quiet, Start}
 use Rattle.chip.specs.declared.wire.Sample.{Sample as Levels}
 use Rattle.chip.proofs.Posed.{posed}
+use Rattle.chip.proofs.PullLaws.{low-line}
 use Rattle.chip.proofs.RangeLaws.{next-same}
 use Rattle.chip.proofs.ViewLaws.{unstopped}
 use Rattle.recovery.specs.Recovery.{pulse}
@@ -76,10 +77,8 @@ start-edge false false = refl
 
 -- a pulled line makes no stop
 pulled-edge : (scl line pulling : Bool) → isStop (edgeOf scl true line (lineOf pulling false)) ≡ false
-unfolding isStop
-pulled-edge true true pulling = ap isStop (start-edge true pulling)
-pulled-edge true false pulling = ap isStop (start-edge false pulling)
-pulled-edge false line pulling = rise-edge line (lineOf pulling false)
+pulled-edge scl line true = low-line scl true line
+pulled-edge scl line false = low-line scl true line
 
 -- a pulse
 pub pulse-keeps : (pin : Bool) (w : World) → Keeps w (pulse pin w)
