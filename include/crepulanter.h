@@ -59,7 +59,7 @@
 extern "C" {
 #endif
 
-#define CREP_VERSION "0.2.0"
+#define CREP_VERSION "0.2.1"
 #define CREP_VERSION_NUMBER 200         /* the same for #if: 10000 * first + 100 * second + third */
 
 /* Before a call whose result must not be dropped: the compiler warns where it is. */

@@ -357,7 +357,8 @@ static enum note placed_stop(struct crep_chip *c, uint8_t *array, int pin)
     return note;
 }
 
-/* A STOP while the chip pulls: standby, note 7 if a load exists. No sample leads here, for a pull keeps the line low. */
+/* A STOP while the chip pulls: standby, note 7 if a load exists. No sample leads here, for a pull keeps the line low; the
+ * kit has no such rule, and this one stays so that the comparison would tell. */
 static enum note stop_in_pull(struct crep_chip *c)
 {
     go(c, STANDBY);

@@ -1,4 +1,4 @@
--- What a STOP does to a chip that is not busy, by one of three effects. (RULES S1-S12, N1, N4, N5.)
+-- What a STOP does to a chip that is not busy, by one of three effects. (RULES S1, S3-S12, N1, N4, N5.)
 --
 -- | Name | Meaning |
 -- |---|---|
@@ -20,7 +20,7 @@ use Rattle.parts.specs.Sector.{sectorStart}
 use Rattle.parts.specs.declared.register.Register.{Register}
 use Rattle.parts.specs.declared.phase.Phase.{Phase}
 use Rattle.parts.specs.declared.phase.Phase.the-variants.{Standby, Slave, First, Second, Data, AckWrite, AckRead, AckFirst, AckByte, Sending, Waiting, Next}
-use Rattle.chip.specs.Chip.{withTransfer, withCycle, pulls}
+use Rattle.chip.specs.Chip.{withTransfer, withCycle}
 use Rattle.chip.specs.Part.{marked, partial}
 use Rattle.chip.specs.Transfer.{moved, emptyAt, dropNote}
 use Rattle.chip.specs.declared.chip.Chip.{Chip}
@@ -57,11 +57,9 @@ rightEffect c pin =
     (cond (marked (c .part) (c .mark)) (Change (written (c .register) (getD (c .load .bytes) 0 0) pin))
     (arrayEffect c pin))
 
--- S2-S4: while the chip pulls, rightly placed, anywhere else
+-- S3, S4: rightly placed, anywhere else. No case for a chip that pulls, to which none comes (L10)
 unfoldable pub stopEffect : Chip → Bool → Effect
-stopEffect c pin =
-    cond (pulls c) (Nothing (dropNote c))
-    (cond (rightly (c .phase)) (rightEffect c pin) (Nothing (dropNote c)))
+stopEffect c pin = cond (rightly (c .phase)) (rightEffect c pin) (Nothing (dropNote c))
 
 -- S1: a stop always leads here
 abbrev pub rested : Chip → Register → ℕ → Bool → Bool → Chip

@@ -1,4 +1,4 @@
--- What one event can do to register, busy flag and array, and what a row of events leaves of a guarded chip.
+-- What one event can do to register, busy flag and array, what a row of events leaves of a guarded chip, and the states that laws speak of.
 --
 -- | Name | Meaning |
 -- |---|---|
@@ -171,6 +171,6 @@ pub record SeesStart (c : Chip) : Type 0 where
   pub scl : c .scl ≡ true
   pub line : c .line ≡ false
 
--- A chip whose pull is on its line: in a phase that pulls it is not busy, and its last line is low
+-- A chip whose pull is on its line, as it is on every run from power-up (L8): in a phase that pulls it is not busy and its last line is low
 abbrev pub Shows : Chip → Type 0
 Shows c = phasePulls (c .phase) ≡ true → (c .busy ≡ false) × (c .line ≡ false)

@@ -74,14 +74,10 @@ impl Chip {
         self.array_effect(pin)
     }
 
-    // What a stop does: while the chip pulls, rightly placed, or misplaced.
+    // What a stop does: rightly placed, or misplaced.
     fn stop_effect(self, pin: bool) -> Effect
         ensures { λ r. ⌜ r ≡ stopEffect self pin ⌝ }
     {
-        if self.pulls() {
-            let note = self.drop_note();
-            return Effect::Nothing { note: note };
-        }
         let phase = self.phase;
         if rightly_placed(phase) {
             return self.right_effect(pin);

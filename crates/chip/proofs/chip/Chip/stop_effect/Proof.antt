@@ -1,4 +1,4 @@
--- The three cases in their order. Assumes nothing.
+-- Rightly placed or not. Assumes nothing.
 use borrow.Author.Needs.{needs}
 use mathlib.Core.Path.{sym, _∙_}
 use Rattle.chip.specs.Stop.{stopEffect}
@@ -12,9 +12,6 @@ stop-effect-spec =
     (tie.spec
     (λ c κs. search needs)
     (λ c κs. search needs)
-    (λ c. simp (c .drop-note .ensures, sym (c .before .before .pulls .ensures) ∙ c .before .if1 .taken))
+    (λ c. simp (c .right-effect .ensures, sym (c .before .before .rightly-placed .ensures) ∙ c .before .if1 .taken))
     (λ c κs. search needs)
-    (λ c κs. search needs)
-    (λ c. simp (c .right-effect .ensures, sym (c .before .before .rightly-placed .ensures) ∙ c .before .if2 .taken, sym (c .before .before .before .before .pulls .ensures) ∙ c .before .before .before .if1 .left))
-    (λ c κs. search needs)
-    (λ c. simp (c .drop-note2 .ensures, sym (c .before .before .rightly-placed .ensures) ∙ c .before .if2 .left, sym (c .before .before .before .before .pulls .ensures) ∙ c .before .before .before .if1 .left)))
+    (λ c. simp (c .drop-note .ensures, sym (c .before .before .rightly-placed .ensures) ∙ c .before .if1 .left)))
