@@ -43,14 +43,15 @@ pulling-unstopped (Sample s) c pulling = ap (λ line. isStop (edgeOf (c .scl) (s
 pulling-unstopped ProgramDone c pulling = refl
 pulling-unstopped PowerUp c pulling = refl
 
--- with SCL high before and now, its own pull is a START where the last line is high, and no edge where it is low
-pub pulling-edge : (c : Chip) (s : Levels) → pulls c ≡ true → c .scl ≡ true → s .scl ≡ true → edgeIn c s ≡ cond (c .line) Start Quiet
+-- with SCL high before and now, a low line is a START where the line was high, and no edge where it was low
+pub low-starts : (line : Bool) → edgeOf true true line false ≡ cond line Start Quiet
 unfolding edgeOf
-pulling-edge c s pulling before now = rw (pulling, before, now) (go (c .line))
-  where
-    go : (line : Bool) → edgeOf true true line false ≡ cond line Start Quiet
-    go true = refl
-    go false = refl
+low-starts true = refl
+low-starts false = refl
+
+-- so its own pull is a START where the last line is high, and no edge where it is low
+pub pulling-edge : (c : Chip) (s : Levels) → pulls c ≡ true → c .scl ≡ true → s .scl ≡ true → edgeIn c s ≡ cond (c .line) Start Quiet
+pulling-edge c s pulling before now = rw (pulling, before, now) (low-starts (c .line))
 
 -- such a chip can be handed in: in range, it pulls, and SCL and line are high
 pub pulling-high : let c : Chip = withLevels (atPhase (newChip 0 0) AckWrite) true true in

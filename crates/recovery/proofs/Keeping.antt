@@ -12,7 +12,7 @@ use Rattle.chip.specs.Wire.{sample, lineOf, edgeOf}
 use Rattle.chip.specs.declared.wire.Edge.the-variants.{Quiet, Start}
 use Rattle.chip.specs.declared.wire.Sample.{Sample as Levels}
 use Rattle.chip.proofs.Posed.{posed}
-use Rattle.chip.proofs.PullLaws.{low-line}
+use Rattle.chip.proofs.PullLaws.{low-line, low-starts}
 use Rattle.chip.proofs.RangeLaws.{next-same}
 use Rattle.chip.proofs.ViewLaws.{unstopped}
 use Rattle.recovery.specs.Recovery.{pulse}
@@ -67,18 +67,14 @@ rise-edge : (line now : Bool) → isStop (edgeOf false true line now) ≡ false
 unfolding edgeOf isStop
 rise-edge line now = refl
 
+-- a line that the master pulls is low
+master-low : (pulling : Bool) → lineOf pulling false ≡ false
+master-low true = refl
+master-low false = refl
+
 -- SDA pulled with SCL high is a START where the line was high, and nothing where it was low
 pub start-edge : (line pulling : Bool) → edgeOf true true line (lineOf pulling false) ≡ cond line Start Quiet
-unfolding edgeOf
-start-edge true true = refl
-start-edge true false = refl
-start-edge false true = refl
-start-edge false false = refl
-
--- a pulled line makes no stop
-pulled-edge : (scl line pulling : Bool) → isStop (edgeOf scl true line (lineOf pulling false)) ≡ false
-pulled-edge scl line true = low-line scl true line
-pulled-edge scl line false = low-line scl true line
+start-edge line pulling = rw (master-low pulling) (low-starts line)
 
 -- a pulse
 pub pulse-keeps : (pin : Bool) (w : World) → Keeps w (pulse pin w)
@@ -91,4 +87,4 @@ pulse-keeps pin w =
 
 -- the START after it
 pub start-keeps : (pin : Bool) (w : World) → Keeps w (step (sample true false pin) w)
-start-keeps pin w = unstopped-keeps true false pin w (pulled-edge (w .chip .scl) (w .chip .line) (pulls (w .chip)))
+start-keeps pin w = unstopped-keeps true false pin w (rw (master-low (pulls (w .chip))) (low-line (w .chip .scl) true (w .chip .line)))
