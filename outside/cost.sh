@@ -18,11 +18,10 @@ for name in before after; do
     git -C "$room/$name" checkout -q "$commit"
 done
 
-# Two columns of numbers under a name each, beside one another.
+# The lines NAME:NUMBER of both commits, as rows of a table.
 beside() {
-    awk -v OFS=' | ' 'FNR == NR { was[$1] = $2; if (!($1 in seen)) { order[++n] = $1; seen[$1] = 1 } next }
-        { is[$1] = $2; if (!($1 in seen)) { order[++n] = $1; seen[$1] = 1 } }
-        END { for (i = 1; i <= n; i++) print "| " order[i], (order[i] in was ? was[order[i]] : "-"), (order[i] in is ? is[order[i]] : "-") " |" }' \
+    awk -F : -v OFS=' | ' '!($1 in seen) { order[++n] = $1; seen[$1] = 1 } FNR == NR { was[$1] = $2; next } { is[$1] = $2 }
+        END { for (i = 1; i <= n; i++) { at = order[i]; print "| " at, (at in was ? was[at] : "-"), (at in is ? is[at] : "-") " |" } }' \
         "$room/before.$1" "$room/after.$1"
 }
 
@@ -38,15 +37,21 @@ echo "## Public operations and contracts that differ"
 echo
 git -C "$root" diff -U0 "$before" "$after" -- 'crates/*/src/*.rt' | grep -E '^[-+].*(ensures|requires|pub (extern "C" )?fn )' || echo "none"
 
-for name in before after; do
-    cd "$room/$name"
-    rt prove > "../$name.log" 2>&1 || { echo "cost: $name is not proved: $room/$name.log"; exit 1; }
-    sed -n 's/^rt: \(.*\) proved (\([0-9]*\) s)$/\1 \2/p' "../$name.log" > "../$name.seconds"
-    make -s -C outside count > "../$name.count"
-    sed -n 's/^crep_\([a-z]*\), \(.*[^ ]\)  *\([0-9.]*\)$/crep_\1,_\2 \3/p' "../$name.count" | sed 's/ \([a-z0-9]* [0-9.]*\)$/_\1/' > "../$name.instructions"
-    size -t target/staticlib/libcrepulanter.a | awk '/TOTALS/ { print "text_and_constants " $1; print "data " $2 + $3 }' > "../$name.bytes"
+# Twice in turn, and of each crate the lesser time: a machine is not as fast in every minute.
+for turn in 1 2; do
+    for name in before after; do
+        (cd "$room/$name" && rt prove) > "$room/$name.log" 2>&1 || { echo "cost: $name is not proved: $room/$name.log"; exit 1; }
+        sed -n 's/^rt: \(.*\) proved (\([0-9]*\) s)$/\1:\2/p' "$room/$name.log" > "$room/$name.seconds$turn"
+    done
 done
-cd "$room"
+for name in before after; do
+    awk -F : '!($1 in least) { least[$1] = $2; order[++n] = $1 } $2 < least[$1] { least[$1] = $2 }
+        END { for (i = 1; i <= n; i++) { print order[i] ":" least[order[i]]; all += least[order[i]] } print "all:" all }' \
+        "$room/$name.seconds1" "$room/$name.seconds2" > "$room/$name.seconds"
+    make -s -C "$room/$name/outside" count > "$room/$name.count"
+    sed -n 's/^\(crep_.*[^ ]\)  *\([0-9.]*\)$/\1:\2/p' "$room/$name.count" > "$room/$name.instructions"
+    size -t "$room/$name/target/staticlib/libcrepulanter.a" | awk '/TOTALS/ { print "text and constants:" $1; print "data:" $2 + $3 }' > "$room/$name.bytes"
+done
 echo
 echo "## Seconds to prove each crate, from nothing"
 echo
@@ -58,13 +63,13 @@ echo "## Instructions per event"
 echo
 echo "| Call, work | Before | After |"
 echo "|---|---|---|"
-beside instructions | tr _ ' '
+beside instructions
 echo
 echo "## Bytes of the library"
 echo
 echo "| | Before | After |"
 echo "|---|---|---|"
-beside bytes | tr _ ' '
+beside bytes
 
 [ "$gate" = yes ] || exit 0
 echo
@@ -72,7 +77,7 @@ echo "## The gate"
 echo
 for name in before after; do
     began=$(date +%s)
-    "$name/.ci/run" > "$name.gate" 2>&1 || { echo "cost: the gate of $name fails: $room/$name.gate"; exit 1; }
+    "$room/$name/.ci/run" > "$room/$name.gate" 2>&1 || { echo "cost: the gate of $name fails: $room/$name.gate"; exit 1; }
     took=$(($(date +%s) - began))
-    echo "$name: $((took / 60)) min $((took % 60)) s, $(tail -n 1 "$name.gate")"
+    echo "$name: $((took / 60)) min $((took % 60)) s, $(tail -n 1 "$room/$name.gate")"
 done
