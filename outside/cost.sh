@@ -35,7 +35,12 @@ git -C "$root" diff --numstat --no-renames "$before" "$after" -- crates | awk -F
 echo
 echo "## Public operations and contracts that differ"
 echo
-git -C "$root" diff -U0 "$before" "$after" -- 'crates/*/src/*.rt' | grep -E '^[-+].*(ensures|requires|pub (extern "C" )?fn )' || echo "none"
+for name in before after; do
+    (cd "$room/$name/crates" && awk '/^ *pub (extern "C" )?fn /, /^ *\{$/ { print FILENAME ": " $0 }' */src/*.rt) > "$room/$name.contracts"
+done
+if diff "$room/before.contracts" "$room/after.contracts"; then
+    echo "none of the $(grep -c 'fn ' "$room/after.contracts")"
+fi
 
 # Twice in turn, and of each crate the lesser time: a machine is not as fast in every minute.
 for turn in 1 2; do
