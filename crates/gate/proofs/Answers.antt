@@ -16,11 +16,12 @@ use Rattle.gate.specs.Bytes.{all, total}
 use Rattle.gate.specs.Label.{isLabel}
 use Rattle.gate.specs.Limit.{limitsRefusal}
 use Rattle.gate.specs.Reading.{closedAt, openedAt, stateAt, lengthAt, labelAt, paddingAt, sumAt, isFree, labelFits, goodOf, contentOf, readOf}
+use Rattle.gate.specs.Answer.{needsGate}
 use Rattle.gate.specs.Naming.{ownLength}
 use Rattle.gate.specs.declared.answer.Read.{Read}
 use Rattle.gate.specs.declared.answer.Read.the-variants.{Good, Free, Refused}
 use Rattle.gate.proofs.answer.Read.{the-type}
-use Rattle.gate.proofs.Truth.{and-left, and-right}
+use Rattle.gate.proofs.Truth.{and-left, and-right, cond-by}
 
 -- the checks of reading, all passed
 pub record Passed (bytes : List ℕ) : Type 0 where
@@ -82,6 +83,18 @@ passed-good bytes p =
       p .labelled,
       eq-eqb (limitsRefusal (closedAt bytes) (openedAt bytes)) 0 (p .limited),
     )
+
+-- an operation that needs a gate's record and answers 0 was given one
+pub needs-good : (bytes : List ℕ) (rest : ℕ) → needsGate (readOf bytes) rest ≡ 0 → readOf bytes ≡ goodOf bytes
+unfolding readOf contentOf
+needs-good bytes rest =
+    let P : Read → Type 0 = λ r. needsGate r rest ≡ 0 → r ≡ goodOf bytes in
+    cond-by P (not (eqb (length bytes) 32)) (λ e. absurd (omega arith))
+    (cond-by P (isFree bytes) (λ e. absurd (omega arith))
+    (cond-by P (not (eqb (stateAt bytes) 0xa5)) (λ e. absurd (omega arith))
+    (cond-by P (not (eqb (sumAt bytes) (total (take 30 bytes)))) (λ e. absurd (omega arith))
+    (cond-by P (not (labelFits bytes)) (λ e. absurd (omega arith))
+    (cond-by P (not (eqb (limitsRefusal (closedAt bytes) (openedAt bytes)) 0)) (λ e. absurd (omega arith)) (λ e. refl))))))
 
 module _ (bytes : List ℕ) (fits : labelFits bytes ≡ true) where
   -- the stored length is at most 24

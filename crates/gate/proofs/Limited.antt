@@ -2,7 +2,7 @@
 -- the limits and the sum changes.
 -- Assumes nothing.
 use mathlib.Core.Path.{_≡_, refl, sym, ap, subst, _∙_}
-use mathlib.Core.Bool.{true, false, not}
+use mathlib.Core.Bool.{true, false}
 use mathlib.Core.List.{List}
 use Prim.Native.Nat.{ℕ, _≤_, _<_, _+_, _-_}
 use native.Mathlib.Omega.{arith}
@@ -11,16 +11,14 @@ use lib.Dec.{eqb}
 use lib.IntN.{ℤ}
 use lib.ListN.{length, getD, take, drop, length-take, length-drop}
 use lib.Seq.{take-at, getD-take, getD-drop}
-use Rattle.gate.specs.Bytes.{total}
 use Rattle.gate.specs.Limit.{inRange, same, limitsRefusal, travelOf}
 use Rattle.gate.specs.Form.{sealedOf, recordOf}
-use Rattle.gate.specs.Reading.{closedAt, openedAt, stateAt, lengthAt, labelAt, sumAt, isFree, labelFits, goodOf, contentOf, readOf}
+use Rattle.gate.specs.Reading.{lengthAt, labelAt, goodOf, readOf}
 use Rattle.gate.specs.Naming.{nameOf}
-use Rattle.gate.specs.Limiting.{limitsOn, limitsOf, relimited, limitedOf}
-use Rattle.gate.specs.declared.answer.Read.{Read}
+use Rattle.gate.specs.Limiting.{limitsOf, relimited, limitedOf}
 use Rattle.gate.specs.declared.answer.Read.the-variants.{Good}
-use Rattle.gate.proofs.Truth.{by-test, cond-by}
-use Rattle.gate.proofs.Answers.{Passed, good-passed}
+use Rattle.gate.proofs.Truth.{by-test}
+use Rattle.gate.proofs.Answers.{Passed, good-passed, needs-good}
 use Rattle.gate.proofs.Writes.{Writable, limits-good}
 use Rattle.gate.proofs.Records.{record-size, record-label, record-read}
 use Rattle.gate.proofs.RoundTrip.{label-size, passed-writable, passed-body}
@@ -44,16 +42,9 @@ module _ (bytes : List ℕ) (closed opened : ℤ) where
       by-test (eqb number 0) (λ e. taken (eqb-true number 0 e)) (λ e. subst P (sym (limited-refused (eqb-false number 0 e))) before)
 
   -- an answer of 0 says that the record is good
-  pub taken-good : limitsOf bytes closed opened ≡ 0 → readOf bytes ≡ goodOf bytes
-  unfolding limitsOf readOf contentOf
-  taken-good =
-      let P : Read → Type 0 = λ r. limitsOn r closed opened ≡ 0 → r ≡ goodOf bytes in
-      cond-by P (not (eqb (length bytes) 32)) (λ e. absurd (omega arith))
-      (cond-by P (isFree bytes) (λ e. absurd (omega arith))
-      (cond-by P (not (eqb (stateAt bytes) 0xa5)) (λ e. absurd (omega arith))
-      (cond-by P (not (eqb (sumAt bytes) (total (take 30 bytes)))) (λ e. absurd (omega arith))
-      (cond-by P (not (labelFits bytes)) (λ e. absurd (omega arith))
-      (cond-by P (not (eqb (limitsRefusal (closedAt bytes) (openedAt bytes)) 0)) (λ e. absurd (omega arith)) (λ e. refl))))))
+  taken-good : limitsOf bytes closed opened ≡ 0 → readOf bytes ≡ goodOf bytes
+  unfolding limitsOf
+  taken-good = needs-good bytes (limitsRefusal closed opened)
 
   -- that it passes every check of reading, and what the new limits pass
   pub limits-taken : limitsOf bytes closed opened ≡ 0 → Passed bytes × ((inRange closed ≡ true) × ((inRange opened ≡ true) × (same closed opened ≡ false)))

@@ -1,9 +1,10 @@
--- The number and values for each answer of reading, and which answer it is. (RULES G11, G13, G14, O9.)
+-- The number and values for each answer of reading, and which answer it is. (RULES G11, G13, G14, F12, O6, O9, O11.)
 --
 -- | Name | Meaning |
 -- |---|---|
 -- | `zerosOf` | a number, with zeros for the limits, the travel and the label length |
 -- | `givenOf` | the number and the values of an answer |
+-- | `needsGate answer rest` | the refusal of an operation that needs a gate's record: what reading refuses, or else the rest |
 -- | `isGood` | the answer is a good record |
 -- | `saysFree` | the answer is a free record |
 -- | `refusedBy` | the answer is the refusal of this number |
@@ -27,6 +28,12 @@ abbrev pub givenOf : Read → Given
 givenOf (Good closed opened travel n) = record { number = 0; closed = closed; opened = opened; travel = travel; length = n }
 givenOf Free = zerosOf 0
 givenOf (Refused number) = zerosOf number
+
+-- F12, O6, O11: a free record is no gate and is refused with 12; the rest is asked of a good one
+abbrev pub needsGate : Read → ℕ → ℕ
+needsGate (Good c o t n) rest = rest
+needsGate Free rest = 12
+needsGate (Refused number) rest = number
 
 -- G11: a good record
 abbrev pub isGood : Read → Bool

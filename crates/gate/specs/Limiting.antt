@@ -2,8 +2,7 @@
 --
 -- | Name | Meaning |
 -- |---|---|
--- | `limitsOn` | the number that the operation answers, by what reading finds |
--- | `limitsOf` | the number, by the bytes: the first refusal that applies, or 0 |
+-- | `limitsOf` | the number that the operation answers: the first refusal that applies, or 0 |
 -- | `relimited` | a record with other limits: bytes 4–29 as they are, and the sum anew |
 -- | `limitedOf` | what the buffer holds afterwards: that record, or after a refusal what it held |
 use Prim.Native.Nat.{ℕ}
@@ -14,19 +13,12 @@ use lib.IntN.{ℤ}
 use lib.ListN.{take, drop}
 use Rattle.gate.specs.Limit.{limitsRefusal}
 use Rattle.gate.specs.Form.{limitBytes, sealedOf}
+use Rattle.gate.specs.Answer.{needsGate}
 use Rattle.gate.specs.Reading.{readOf}
-use Rattle.gate.specs.declared.answer.Read.{Read}
-use Rattle.gate.specs.declared.answer.Read.the-variants.{Good, Free, Refused}
 
--- O6, G17: what reading refuses, then 10, 11 (our reading: a free record is 12 here, since it is no gate, docs/DECISIONS.md)
-abbrev pub limitsOn : Read → ℤ → ℤ → ℕ
-limitsOn (Good c o t n) closed opened = limitsRefusal closed opened
-limitsOn Free closed opened = 12
-limitsOn (Refused number) closed opened = number
-
--- O6, G17: 7, 12, 13, 14 as reading has them, then 10, 11
+-- O6, G17: 7, 12, 13, 14 as reading has them, then 10, 11 (our reading: a free record is 12 here, since it is no gate, docs/DECISIONS.md)
 unfoldable pub limitsOf : List ℕ → ℤ → ℤ → ℕ
-limitsOf bytes closed opened = limitsOn (readOf bytes) closed opened
+limitsOf bytes closed opened = needsGate (readOf bytes) (limitsRefusal closed opened)
 
 -- G18: the limits in bytes 0–3, nothing else but the sum
 unfoldable pub relimited : List ℕ → ℤ → ℤ → List ℕ

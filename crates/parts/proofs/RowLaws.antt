@@ -1,9 +1,16 @@
--- What each step keeps, a row of steps keeps. Assumes nothing.
+-- Rows: two that pass a test, and what each step keeps, a row of steps keeps. Assumes nothing.
 use mathlib.Core.Bool.{Bool, true}
 use mathlib.Core.Path.{_≡_, refl}
-use mathlib.Core.List.{List, [], _∷_}
+use mathlib.Core.List.{List, [], _∷_, _++_}
 use Rattle.parts.specs.Rows.{every, stepped}
 use Rattle.parts.proofs.CondLaws.{and-left, and-right}
+
+-- two rows of which each passes are one
+pub every-on : {A : Type 0} (test : A → Bool) (first second : List A) → every test first ≡ true → every test second ≡ true → every test (first ++ second) ≡ true
+unfolding every
+every-on test [] second f s = s
+every-on test (x ∷ first) second f s =
+    rw (and-left (test x) (every test first) f) (every-on test first second (and-right (test x) (every test first) f) s)
 
 module _ {A W : Type 0} (step : A → W → W) where
   -- what each step that passes a test keeps, a row of such steps keeps

@@ -1,15 +1,16 @@
--- Event bytes and answer bytes read back: a sample's byte is that sample, an answer byte has its line, and so what a trace answers has the lines of
--- the row that it runs. Assumes nothing.
-use Prim.Native.Nat.{ℕ, _+_, _*_, _/_, _%_}
+-- Event bytes and answer bytes read back: a sample's byte is that sample, an answer byte has its line and its note, and so what a trace answers has the
+-- lines and the notes of the row that it runs. Assumes nothing.
+use Prim.Native.Nat.{ℕ, _+_, _*_, _/_, _%_, _≤_}
 use mathlib.Core.Bool.{Bool, true, false}
 use mathlib.Core.Path.{_≡_, refl, ap₂}
 use mathlib.Core.List.{List, [], _∷_, map}
 use native.Mathlib.Omega.{arith}
-use borrow.Author.Tests.{eq-eqb, ne-eqb, le-leb}
+use borrow.Author.Tests.{eq-eqb, ne-eqb}
 use lib.Dec.{leb}
-use Rattle.chip.specs.Run.{World, step, noteOf, lines}
+use Rattle.chip.specs.Run.{World, step, noteOf, lines, notes}
 use Rattle.chip.specs.Wire.{sample}
-use Rattle.trace.specs.Bytes.{eventOf, sampleByte, answerByte, answerLine}
+use Rattle.chip.proofs.ViewLaws.{next-note}
+use Rattle.trace.specs.Bytes.{eventOf, sampleByte, answerByte, answerLine, answerNote}
 use Rattle.trace.specs.Trace.{answersOf}
 
 -- the byte of a sample is read as that sample
@@ -46,3 +47,15 @@ unfolding answersOf lines
 lines-answered [] w = refl
 lines-answered (byte ∷ bytes) w =
     ap₂ (λ (b : Bool) (l : List Bool). b ∷ l) (answer-line (step (eventOf byte) w .chip .line) (noteOf (eventOf byte) w)) (lines-answered bytes (step (eventOf byte) w))
+
+-- bits 1-3 are its note
+answer-note : (line : Bool) (note : ℕ) → note ≤ 7 → answerNote (answerByte line note) ≡ note
+answer-note true note h = omega arith
+answer-note false note h = omega arith
+
+-- and the notes are theirs
+pub notes-answered : (bytes : List ℕ) (w : World) → map answerNote (answersOf bytes w) ≡ notes (map eventOf bytes) w
+unfolding answersOf notes noteOf
+notes-answered [] w = refl
+notes-answered (byte ∷ bytes) w =
+    ap₂ (λ (n : ℕ) (l : List ℕ). n ∷ l) (answer-note (step (eventOf byte) w .chip .line) (noteOf (eventOf byte) w) (next-note (eventOf byte) (w .chip) (w .array))) (notes-answered bytes (step (eventOf byte) w))

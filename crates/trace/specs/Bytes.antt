@@ -6,8 +6,8 @@
 -- | `sampleByte scl sda pin` | the event byte of a sample |
 -- | `allEvents` | every byte of a row is an event byte |
 -- | `answerByte line note` | the answer byte of a line and a note |
--- | `answerLine byte` | the line in an answer byte |
-use Prim.Native.Nat.{ℕ, _+_, _*_, _%_}
+-- | `answerLine byte`, `answerNote byte` | the line in an answer byte, and its note |
+use Prim.Native.Nat.{ℕ, _+_, _*_, _/_, _%_}
 use mathlib.Core.Bool.{Bool, cond}
 use mathlib.Core.List.{List}
 use lib.Dec.{eqb, leb}
@@ -35,3 +35,6 @@ answerByte line note = weight line 1 + note % 8 * 2
 
 abbrev pub answerLine : ℕ → Bool
 answerLine byte = bitOf byte 0
+
+abbrev pub answerNote : ℕ → ℕ
+answerNote byte = byte / 2 % 8
