@@ -1,9 +1,11 @@
--- The bytes that an array holds from an address on: how many, when two arrays hold the same, and that they are bytes. Assumes nothing.
+-- The bytes that an array holds from an address on: how many, when two arrays hold the same, that they are bytes, and which part of the
+-- array they are. Assumes nothing.
 use Prim.Native.Nat.{ℕ, zero, suc, _+_, _%_, _≤_, _<_}
 use mathlib.Core.List.{List, _∷_}
-use mathlib.Core.Path.{_≡_, refl, ap, ap₂, subst}
+use mathlib.Core.Path.{_≡_, refl, ap, ap₂, sym, subst, _∙_}
 use native.Mathlib.Omega.{arith}
-use lib.ListN.{length, getD}
+use lib.ListN.{length, getD, take, drop}
+use lib.Seq.{drop-cons}
 use Rattle.parts.specs.Sector.{nextAddress, Bytes}
 use Rattle.messages.specs.RandomRead.{held}
 
@@ -35,3 +37,13 @@ unfolding held
 held-bytes xs zero address h k = omega arith
 held-bytes xs (suc n) address h zero = h address
 held-bytes xs (suc n) address h (suc k) = held-bytes xs n (nextAddress address) h k
+
+-- where a read does not come to the end of the array they are a part of it
+pub held-part : (xs : List ℕ) (n address : ℕ) → length xs ≡ 0x4000 → address + n ≤ 0x4000 → held xs address n ≡ take n (drop address xs)
+unfolding held
+held-part xs zero address whole h = refl
+held-part xs (suc zero) address whole h = sym (ap (take 1) (drop-cons xs address 0 (omega arith)))
+held-part xs (suc (suc n)) address whole h =
+    let further : nextAddress address ≡ suc address = omega arith in
+    ap (λ (rest : List ℕ). getD xs address 0 ∷ rest) (ap (λ (a : ℕ). held xs a (suc n)) further ∙ held-part xs (suc n) (suc address) whole (omega arith))
+    ∙ sym (ap (take (suc (suc n))) (drop-cons xs address 0 (omega arith)))

@@ -5,20 +5,23 @@ use mathlib.Core.Bool.{Bool, true, false}
 use mathlib.Core.List.{List, [], _∷_, _++_, map}
 use mathlib.Core.Path.{_≡_, refl, ap₂, subst}
 use native.Mathlib.Omega.{arith}
-use lib.ListN.{length}
+use lib.ListN.{length, drop}
 use Rattle.parts.specs.Load.{noLoad}
+use Rattle.parts.specs.Rows.{stepped}
 use Rattle.parts.specs.Sector.{Bytes}
 use Rattle.parts.specs.declared.phase.Phase.the-variants.{Slave}
-use Rattle.chip.specs.Run.{World, world, lines}
+use Rattle.chip.specs.Run.{World, lines}
 use Rattle.chip.specs.View.{SeesStart}
-use Rattle.chip.proofs.Posed.{posed-so}
-use Rattle.messages.specs.Messages.{slaveByte}
+use Rattle.chip.specs.declared.chip.Chip.{Chip}
+use Rattle.trace.specs.Trace.{answersOf}
+use Rattle.trace.proofs.ByteLaws.{sample-event}
+use Rattle.messages.specs.Messages.{begin, slaveByte}
 use Rattle.messages.specs.RandomRead.{bytesTaken, randomRead, held, bitsRead, bytesRead, Acknowledged, Returns}
-use Rattle.messages.specs.Wires.{heardOf, bitsOf, byteOf}
+use Rattle.messages.specs.Wires.{spelled, heardOf, bitsOf, byteOf}
 use Rattle.messages.proofs.Held.{length-held}
 use Rattle.messages.proofs.Spelling.{spelled-heard}
 use Rattle.messages.proofs.Telling.{pinned, then, then-hears}
-use Rattle.messages.proofs.Sending.{idle, twice, heardSent, byte-again, slave-sent, first-sent, second-sent, restarted}
+use Rattle.messages.proofs.Sending.{idle, idle-so, resting, begun, twice, heardSent, byte-again, slave-sent, first-sent, second-sent, restarted}
 use Rattle.messages.proofs.Reading.{heardBytes, bytes-read, bits-heard}
 
 -- all that is heard of a random read of these bytes
@@ -57,16 +60,16 @@ read-heard w s select-in address n h pins =
     (then
     (then
     (then
-    (then (slave-sent (w .chip) (w .array) false (w .chip .counter) (w .chip .mark) (w .chip .load) select-in)
-    (first-sent (w .chip) (w .array) (w .chip .counter) (w .chip .mark) (w .chip .load) (address / 256) (omega arith)))
-    (second-sent (w .chip) (w .array) (w .chip .counter) (w .chip .mark) (w .chip .load) address h))
-    (restarted (w .chip) (w .array) address false (w .chip .load)))
+    (then (slave-sent (w .chip) (w .array) false (w .chip .counter) (w .chip .mark) noLoad select-in)
+    (first-sent (w .chip) (w .array) (w .chip .counter) (w .chip .mark) noLoad (address / 256) (omega arith)))
+    (second-sent (w .chip) (w .array) (w .chip .counter) (w .chip .mark) noLoad address h))
+    (restarted (w .chip) (w .array) address false))
     (slave-sent (w .chip) (w .array) true address false noLoad select-in))
     (bytes-read (w .chip) (w .array) noLoad n address)
     pins)
   where
-    started : idle (w .chip) (w .array) (w .chip .counter) (w .chip .mark) (w .chip .load) false (Slave 0 0) ≡ w
-    started i = world (posed-so (w .chip) (s .idle) (s .scl) (s .line) (s .phase) i) (w .array)
+    started : idle (w .chip) (w .array) (w .chip .counter) (w .chip .mark) noLoad false (Slave 0 0) ≡ w
+    started = idle-so w (s .idle) (s .scl) (s .line) (s .phase) (s .load)
 
 -- For any chip that has just seen a START, at its own select: the random read is acknowledged, and the line's bits are those of the array's
 -- bytes from the address on
@@ -80,6 +83,15 @@ random-read w s select-in address n h pins =
       acknowledged = acks-heard (w .chip .select) address bytes;
       bits = subst (λ (m : ℕ). bitsRead m heard ≡ map bitsOf bytes) (length-held (w .array) address n) (read-bits (w .chip .select) address bytes);
     })
+
+-- and a chip that rests, with the START made before the read: what is heard of its two events is no part of it
+pub rested-read : (c : Chip) (xs : List ℕ) (counter : ℕ) (mark scl line : Bool) → c .select ≤ 7 → (address n : ℕ) → address ≤ 0x3fff → (pins : ℕ → Bool)
+    → Returns n (drop 2 (heardOf pins (begin ++ randomRead (c .select) address n) (resting c xs counter mark scl line))) (held xs address n)
+unfolding spelled answersOf pinned stepped
+rested-read c xs counter mark scl line select-in address n h pins =
+    rw (sample-event true true (pins 0), sample-event true false (pins 1), begun c xs counter mark scl line .plays pins .ends)
+    (random-read (idle c xs counter mark noLoad false (Slave 0 0)) (record { idle = refl; phase = refl; load = refl; scl = refl; line = refl }) select-in address n h
+    (λ k. pins (suc (suc k))))
 
 -- the bits of bytes make the bytes
 bytes-again : (bytes : List ℕ) → Bytes bytes → map (byteOf 0) (map bitsOf bytes) ≡ bytes

@@ -12,13 +12,13 @@ use Rattle.parts.specs.declared.phase.Phase.the-variants.{Standby, AckRead, Sen
 use Rattle.parts.specs.Rows.{stepped}
 use Rattle.chip.specs.Chip.{pulls}
 use Rattle.chip.specs.Event.{next, nextArray, sampled, judged, judgedArray, reacted, reactedArray}
-use Rattle.chip.specs.Run.{World, step, ran, lines}
+use Rattle.chip.specs.Run.{World, step, noteOf, lines, notes}
 use Rattle.chip.specs.Transfer.{fallIn, byteBegun, byteEnded}
 use Rattle.chip.specs.Wire.{edgeOf}
 use Rattle.chip.specs.declared.chip.Chip.{Chip}
 use Rattle.messages.specs.RandomRead.{byteTaken, bytesTaken, held, highs, bitsIn}
 use Rattle.messages.specs.Wires.{clock, clocks, bitsOf}
-use Rattle.messages.proofs.Telling.{pinned, Says, then}
+use Rattle.messages.proofs.Telling.{pinned, silent, Says, then}
 use Rattle.messages.proofs.Sending.{idle, twice}
 
 -- the two phases from which a byte begins: the acknowledge of a slave byte with read, and the master's low bit
@@ -52,31 +52,30 @@ module _ (c : Chip) (xs : List ℕ) (load : Load) where
 
   -- a clock in which the chip sends a bit
   bit-sent : (u : World) (counter : ℕ) (phase : Phase) (bit : Bool)
-      → ((pins : ℕ → Bool) → ran (pinned pins (clock true)) u ≡ reads counter (not (not bit) && true) phase)
-      → ((pins : ℕ → Bool) → lines (pinned pins (clock true)) u ≡ twice ((not (not bit) && true) ∷ []))
+      → Says u (clock true) (twice ((not (not bit) && true) ∷ [])) (reads counter (not (not bit) && true) phase)
       → Says u (clock true) (twice (bit ∷ [])) (reads counter bit phase)
-  bit-sent u counter phase true ends hears = record { ends = ends; hears = hears }
-  bit-sent u counter phase false ends hears = record { ends = ends; hears = hears }
+  bit-sent u counter phase true s = s
+  bit-sent u counter phase false s = s
 
   -- the first clock brings bit 7 of the byte at the counter
   bit-first : (begins : Begins) (counter : ℕ)
       → Says (reads counter false (from begins)) (clock true) (twice (bitOf (getD xs counter 0) 7 ∷ [])) (reads counter (bitOf (getD xs counter 0) 7) (Sending 7 (getD xs counter 0)))
-  unfolding twice stepped lines step next nextArray sampled judged judgedArray reacted reactedArray edgeOf pulls phasePulls risen fallIn byteBegun pinned
-  bit-first read counter = bit-sent (reads counter false AckRead) counter (Sending 7 (getD xs counter 0)) (bitOf (getD xs counter 0) 7) (λ pins. refl) (λ pins. refl)
-  bit-first on counter = bit-sent (reads counter false Next) counter (Sending 7 (getD xs counter 0)) (bitOf (getD xs counter 0) 7) (λ pins. refl) (λ pins. refl)
+  unfolding twice stepped lines notes noteOf silent step next nextArray sampled judged judgedArray reacted reactedArray edgeOf pulls phasePulls risen fallIn byteBegun pinned
+  bit-first read counter = bit-sent (reads counter false AckRead) counter (Sending 7 (getD xs counter 0)) (bitOf (getD xs counter 0) 7) (record { plays = λ pins. record { ends = refl; hears = refl; tells = refl } })
+  bit-first on counter = bit-sent (reads counter false Next) counter (Sending 7 (getD xs counter 0)) (bitOf (getD xs counter 0) 7) (record { plays = λ pins. record { ends = refl; hears = refl; tells = refl } })
 
   -- each of the next ones the next bit
   bit-next : (counter : ℕ) (line : Bool) (i byte : ℕ)
       → Says (reads counter line (Sending (suc i) byte)) (clock true) (twice (bitOf byte i ∷ [])) (reads counter (bitOf byte i) (Sending i byte))
-  unfolding twice stepped lines step next nextArray sampled judged judgedArray reacted reactedArray edgeOf pulls phasePulls risen fallIn pinned
-  bit-next counter line i byte = bit-sent (reads counter line (Sending (suc i) byte)) counter (Sending i byte) (bitOf byte i) (λ pins. refl) (λ pins. refl)
+  unfolding twice stepped lines notes noteOf silent step next nextArray sampled judged judgedArray reacted reactedArray edgeOf pulls phasePulls risen fallIn pinned
+  bit-next counter line i byte = bit-sent (reads counter line (Sending (suc i) byte)) counter (Sending i byte) (bitOf byte i) (record { plays = λ pins. record { ends = refl; hears = refl; tells = refl } })
 
   -- in the ninth the chip lets go and the counter rises: pulled, the next byte follows; let go, standby
   ninth : (counter : ℕ) (line another : Bool) (byte : ℕ)
       → Says (reads counter line (Sending zero byte)) (clock (not another)) (twice (not another ∷ [])) (reads (nextAddress counter) (not another) (cond another Next Standby))
-  unfolding twice stepped lines step next nextArray sampled judged judgedArray reacted reactedArray edgeOf pulls phasePulls risen fallIn byteEnded pinned
-  ninth counter line true byte = record { ends = λ pins. refl; hears = λ pins. refl }
-  ninth counter line false byte = record { ends = λ pins. refl; hears = λ pins. refl }
+  unfolding twice stepped lines notes noteOf silent step next nextArray sampled judged judgedArray reacted reactedArray edgeOf pulls phasePulls risen fallIn byteEnded pinned
+  ninth counter line true byte = record { plays = λ pins. record { ends = refl; hears = refl; tells = refl } }
+  ninth counter line false byte = record { plays = λ pins. record { ends = refl; hears = refl; tells = refl } }
 
   -- a byte
   byte-heard : (begins : Begins) (counter : ℕ) (another : Bool)
@@ -106,7 +105,7 @@ module _ (c : Chip) (xs : List ℕ) (load : Load) where
   pub bytes-read : (n counter : ℕ) (pins : ℕ → Bool) → lines (pinned pins (bytesTaken n)) (reads counter false AckRead) ≡ heardBytes (held xs counter n)
   unfolding bytesTaken heardBytes held lines pinned
   bytes-read zero counter pins = refl
-  bytes-read (suc n) counter pins = bytes-heard n read counter .hears pins
+  bytes-read (suc n) counter pins = bytes-heard n read counter .plays pins .hears
 
 -- the bits in what is heard are those of the bytes
 pub bits-heard : (bytes : List ℕ) → bitsIn (length bytes) (heardBytes bytes) ≡ map bitsOf bytes

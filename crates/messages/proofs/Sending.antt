@@ -2,29 +2,32 @@
 use Prim.Native.Nat.{ℕ, zero, suc, _+_, _*_, _/_, _%_, _≤_, _<_}
 use mathlib.Core.Bool.{Bool, true, false, cond, not, _&&_}
 use mathlib.Core.List.{List, [], _∷_, _++_}
-use mathlib.Core.Path.{_≡_, refl, subst}
+use mathlib.Core.Path.{_≡_, refl, sym, subst}
 use native.Mathlib.Decide.{ℕ-discrete}
 use native.Mathlib.Omega.{arith}
 use borrow.Author.Tests.{eq-eqb, ne-eqb, eqb-true}
 use lib.Dec.{eqb}
-use Rattle.parts.specs.Load.{noLoad}
+use Rattle.parts.specs.Load.{noLoad, loaded}
 use Rattle.parts.specs.Phase.{weight, bitOf, risen, phasePulls}
+use Rattle.parts.specs.Sector.{nextPlace}
 use Rattle.parts.specs.declared.load.Load.{Load}
 use Rattle.parts.specs.declared.phase.Phase.{Phase}
-use Rattle.parts.specs.declared.phase.Phase.the-variants.{Slave, First, Second, AckWrite, AckRead, AckFirst, AckByte}
+use Rattle.parts.specs.declared.phase.Phase.the-variants.{Standby, Slave, First, Second, Data, AckWrite, AckRead, AckFirst, AckByte}
 use Rattle.parts.proofs.CondLaws.{and-left, and-right}
 use Rattle.parts.specs.Rows.{stepped}
 use Rattle.chip.specs.Chip.{pulls, withTransfer}
 use Rattle.chip.specs.Event.{next, nextArray, sampled, judged, judgedArray, reacted, reactedArray}
-use Rattle.chip.specs.Run.{World, world, step, lines}
-use Rattle.chip.specs.Transfer.{fallIn, slaveTaken, addressTaken}
+use Rattle.chip.specs.Part.{enabled}
+use Rattle.chip.specs.Run.{World, world, step, noteOf, lines, notes}
+use Rattle.chip.specs.Stop.{rightly, stopEffect, effectMoved, effectArray}
+use Rattle.chip.specs.Transfer.{fallIn, slaveTaken, addressTaken, arrayData, registerData}
 use Rattle.chip.specs.Wire.{edgeOf}
 use Rattle.chip.specs.declared.chip.Chip.{Chip}
 use Rattle.chip.proofs.Posed.{posed}
-use Rattle.messages.specs.Messages.{byteSent, slaveByte}
+use Rattle.messages.specs.Messages.{begin, byteSent, slaveByte}
 use Rattle.messages.specs.RandomRead.{restart}
 use Rattle.messages.specs.Wires.{clock, clocks, bitsOf, byteOf}
-use Rattle.messages.proofs.Telling.{pinned, Says, then}
+use Rattle.messages.proofs.Telling.{pinned, silent, Says, then}
 
 -- each level in both halves of its clock
 unfoldable pub twice : List Bool → List Bool
@@ -55,9 +58,9 @@ pub byte-again : (byte : ℕ) → byte < 256 → byteOf 0 (bitsOf byte) ≡ byte
 unfolding below byteOf
 byte-again byte h = eqb-true (byteOf 0 (bitsOf byte)) byte (each 256 (λ (b : ℕ). eqb (byteOf 0 (bitsOf b)) b) refl byte h)
 
--- the bytes that a chip wants before it reads
+-- the bytes that a chip wants: the slave byte, two address bytes, data
 data Wanted : Type 0 where
-  slave first : Wanted
+  slave first more : Wanted
   second : ℕ → Wanted
 
 -- the phase before each
@@ -65,26 +68,48 @@ abbrev before : Wanted → Phase
 before slave = Slave 0 0
 before first = AckWrite
 before (second high) = AckFirst high
+before more = AckByte
 
 -- the phase with all its bits
 abbrev full : Wanted → ℕ → Phase
 full slave got = Slave 8 got
 full first got = First 8 got
 full (second high) got = Second high 8 got
+full more got = Data 8 got
 
 -- an idle chip, otherwise as it is given, with SCL high
 abbrev pub idle : Chip → List ℕ → ℕ → Bool → Load → Bool → Phase → World
 idle c xs counter mark load line phase = world (posed (withTransfer c phase counter mark load) false true line phase) xs
 
+-- an idle chip in standby with no load, otherwise as it is given, with these last levels
+abbrev pub resting : Chip → List ℕ → ℕ → Bool → Bool → Bool → World
+resting c xs counter mark scl line = world (posed (withTransfer c Standby counter mark noLoad) false scl line Standby) xs
+
+-- with what it is known to have a chip is itself
+pub idle-so : (w : World) {line : Bool} {phase : Phase} {load : Load} → w .chip .busy ≡ false → w .chip .scl ≡ true → w .chip .line ≡ line → w .chip .phase ≡ phase → w .chip .load ≡ load
+    → idle (w .chip) (w .array) (w .chip .counter) (w .chip .mark) load line phase ≡ w
+idle-so w b s l p d i =
+    world (posed (withTransfer (w .chip) (sym p i) (w .chip .counter) (w .chip .mark) (sym d i)) (sym b i) (sym s i) (sym l i) (sym p i)) (w .array)
+
 module _ (c : Chip) (xs : List ℕ) where
+  -- a chip that rests sees a START, whatever its last levels
+  pub begun : (counter : ℕ) (mark scl line : Bool)
+      → Says (resting c xs counter mark scl line) begin (true ∷ false ∷ []) (idle c xs counter mark noLoad false (Slave 0 0))
+  unfolding stepped lines notes noteOf silent step next nextArray sampled judged judgedArray reacted reactedArray edgeOf pulls phasePulls risen stopEffect rightly effectMoved effectArray pinned
+  begun counter mark true true = record { plays = λ pins. record { ends = refl; hears = refl; tells = refl } }
+  begun counter mark true false = record { plays = λ pins. record { ends = refl; hears = refl; tells = refl } }
+  begun counter mark false true = record { plays = λ pins. record { ends = refl; hears = refl; tells = refl } }
+  begun counter mark false false = record { plays = λ pins. record { ends = refl; hears = refl; tells = refl } }
+
   -- eight clocks bring eight bits
   bits-taken : (wanted : Wanted) (counter : ℕ) (mark : Bool) (load : Load) (b7 b6 b5 b4 b3 b2 b1 b0 : Bool)
       → Says (idle c xs counter mark load false (before wanted)) (clocks (b7 ∷ b6 ∷ b5 ∷ b4 ∷ b3 ∷ b2 ∷ b1 ∷ b0 ∷ [])) (twice (b7 ∷ b6 ∷ b5 ∷ b4 ∷ b3 ∷ b2 ∷ b1 ∷ b0 ∷ []))
       (idle c xs counter mark load b0 (full wanted (byteOf 0 (b7 ∷ b6 ∷ b5 ∷ b4 ∷ b3 ∷ b2 ∷ b1 ∷ b0 ∷ []))))
-  unfolding twice stepped lines step next nextArray sampled judged judgedArray reacted reactedArray edgeOf pulls phasePulls risen fallIn clocks pinned byteOf
-  bits-taken slave counter mark load b7 b6 b5 b4 b3 b2 b1 b0 = record { ends = λ pins. refl; hears = λ pins. refl }
-  bits-taken first counter mark load b7 b6 b5 b4 b3 b2 b1 b0 = record { ends = λ pins. refl; hears = λ pins. refl }
-  bits-taken (second high) counter mark load b7 b6 b5 b4 b3 b2 b1 b0 = record { ends = λ pins. refl; hears = λ pins. refl }
+  unfolding twice stepped lines notes noteOf silent step next nextArray sampled judged judgedArray reacted reactedArray edgeOf pulls phasePulls risen fallIn clocks pinned byteOf
+  bits-taken slave counter mark load b7 b6 b5 b4 b3 b2 b1 b0 = record { plays = λ pins. record { ends = refl; hears = refl; tells = refl } }
+  bits-taken first counter mark load b7 b6 b5 b4 b3 b2 b1 b0 = record { plays = λ pins. record { ends = refl; hears = refl; tells = refl } }
+  bits-taken more counter mark load b7 b6 b5 b4 b3 b2 b1 b0 = record { plays = λ pins. record { ends = refl; hears = refl; tells = refl } }
+  bits-taken (second high) counter mark load b7 b6 b5 b4 b3 b2 b1 b0 = record { plays = λ pins. record { ends = refl; hears = refl; tells = refl } }
 
   -- those of a byte bring the byte
   bits-sent : (wanted : Wanted) (counter : ℕ) (mark : Bool) (load : Load) (byte : ℕ) → byte < 256
@@ -100,27 +125,45 @@ module _ (c : Chip) (xs : List ℕ) where
   slave-acked : (reads : Bool) (counter : ℕ) (mark : Bool) (load : Load) (line : Bool) (got : ℕ)
       → eqb (got / 16) 0b1010 ≡ true → eqb (got / 2 % 8) (c .select) ≡ true → eqb (got % 2) 0 ≡ not reads
       → Says (idle c xs counter mark load line (Slave 8 got)) (clock true) (false ∷ false ∷ []) (idle c xs counter mark load false (cond reads AckRead AckWrite))
-  unfolding stepped lines step next nextArray sampled judged judgedArray reacted reactedArray edgeOf pulls phasePulls risen fallIn slaveTaken pinned
-  slave-acked true counter mark load line got p q r = record { ends = λ pins. rw (p, q, r); hears = λ pins. rw (p, q, r) }
-  slave-acked false counter mark load line got p q r = record { ends = λ pins. rw (p, q, r); hears = λ pins. rw (p, q, r) }
+  unfolding stepped lines notes noteOf silent step next nextArray sampled judged judgedArray reacted reactedArray edgeOf pulls phasePulls risen fallIn slaveTaken pinned
+  slave-acked true counter mark load line got p q r = record { plays = λ pins. record { ends = rw (p, q, r); hears = rw (p, q, r); tells = refl } }
+  slave-acked false counter mark load line got p q r = record { plays = λ pins. record { ends = rw (p, q, r); hears = rw (p, q, r); tells = refl } }
 
   -- and so is the first address byte
   first-acked : (counter : ℕ) (mark : Bool) (load : Load) (line : Bool) (got : ℕ)
       → Says (idle c xs counter mark load line (First 8 got)) (clock true) (false ∷ false ∷ []) (idle c xs counter mark load false (AckFirst got))
-  unfolding stepped lines step next nextArray sampled judged judgedArray reacted reactedArray edgeOf pulls phasePulls risen fallIn pinned
-  first-acked counter mark load line got = record { ends = λ pins. refl; hears = λ pins. refl }
+  unfolding stepped lines notes noteOf silent step next nextArray sampled judged judgedArray reacted reactedArray edgeOf pulls phasePulls risen fallIn pinned
+  first-acked counter mark load line got = record { plays = λ pins. record { ends = refl; hears = refl; tells = refl } }
 
   -- and the second, which clears the mark and sets the counter where the address is not FFFFh
   second-acked : (counter : ℕ) (mark : Bool) (load : Load) (line : Bool) (high got : ℕ) → eqb (high * 256 + got) 0xffff ≡ false
       → Says (idle c xs counter mark load line (Second high 8 got)) (clock true) (false ∷ false ∷ []) (idle c xs ((high * 256 + got) % 0x4000) false load false AckByte)
-  unfolding stepped lines step next nextArray sampled judged judgedArray reacted reactedArray edgeOf pulls phasePulls risen fallIn addressTaken pinned
-  second-acked counter mark load line high got p = record { ends = λ pins. rw p; hears = λ pins. rw p }
+  unfolding stepped lines notes noteOf silent step next nextArray sampled judged judgedArray reacted reactedArray edgeOf pulls phasePulls risen fallIn addressTaken pinned
+  second-acked counter mark load line high got p = record { plays = λ pins. record { ends = rw p; hears = rw p; tells = rw p } }
 
-  -- 2, 3, 1 ends the acknowledge and makes a START
-  pub restarted : (counter : ℕ) (mark : Bool) (load : Load)
-      → Says (idle c xs counter mark load false AckByte) restart (true ∷ true ∷ false ∷ []) (idle c xs counter mark noLoad false (Slave 0 0))
-  unfolding stepped lines step next nextArray sampled judged judgedArray reacted reactedArray edgeOf pulls phasePulls risen fallIn pinned
-  restarted counter mark load = record { ends = λ pins. refl; hears = λ pins. refl }
+  -- FFFFh sets it and leaves the counter
+  register-acked : (counter : ℕ) (mark : Bool) (load : Load) (line : Bool)
+      → Says (idle c xs counter mark load line (Second 255 8 255)) (clock true) (false ∷ false ∷ []) (idle c xs counter true load false AckByte)
+  unfolding stepped lines notes noteOf silent step next nextArray sampled judged judgedArray reacted reactedArray edgeOf pulls phasePulls risen fallIn addressTaken pinned
+  register-acked counter mark load line = record { plays = λ pins. record { ends = refl; hears = refl; tells = refl } }
+
+  -- a data byte for the array joins the load where PEL is set
+  data-acked : (counter : ℕ) (load : Load) (line : Bool) (got : ℕ) → enabled (c .part) (c .register .pel) ≡ true
+      → Says (idle c xs counter false load line (Data 8 got)) (clock true) (false ∷ false ∷ []) (idle c xs (nextPlace counter) false (loaded load counter got) false AckByte)
+  unfolding stepped lines notes noteOf silent step next nextArray sampled judged judgedArray reacted reactedArray edgeOf pulls phasePulls risen fallIn arrayData pinned
+  data-acked counter load line got p = record { plays = λ pins. record { ends = rw p; hears = rw p; tells = rw p } }
+
+  -- the first one for the register is kept at place 0
+  byte-acked : (counter : ℕ) (line : Bool) (got : ℕ)
+      → Says (idle c xs counter true noLoad line (Data 8 got)) (clock true) (false ∷ false ∷ []) (idle c xs counter true (loaded noLoad 0 got) false AckByte)
+  unfolding stepped lines notes noteOf silent step next nextArray sampled judged judgedArray reacted reactedArray edgeOf pulls phasePulls risen fallIn registerData pinned
+  byte-acked counter line got = record { plays = λ pins. record { ends = refl; hears = refl; tells = refl } }
+
+  -- 2, 3, 1 ends the acknowledge and makes a START, which drops no load
+  pub restarted : (counter : ℕ) (mark : Bool)
+      → Says (idle c xs counter mark noLoad false AckByte) restart (true ∷ true ∷ false ∷ []) (idle c xs counter mark noLoad false (Slave 0 0))
+  unfolding stepped lines notes noteOf silent step next nextArray sampled judged judgedArray reacted reactedArray edgeOf pulls phasePulls risen fallIn pinned
+  restarted counter mark = record { plays = λ pins. record { ends = refl; hears = refl; tells = refl } }
 
   -- the slave byte with the chip's select, written or read
   pub slave-sent : (reads : Bool) (counter : ℕ) (mark : Bool) (load : Load) → c .select ≤ 7
@@ -161,3 +204,21 @@ module _ (c : Chip) (xs : List ℕ) where
       (then (bits-sent (second (address / 256)) counter mark load (address % 256) (omega arith))
       (second-acked counter mark load (bitOf (address % 256) 0) (address / 256) (address % 256)
       (ne-eqb (address / 256 * 256 + address % 256) 0xffff (omega arith))))
+
+  -- FFFFh's low byte: the register is selected
+  pub register-sent : (counter : ℕ) (mark : Bool) (load : Load)
+      → Says (idle c xs counter mark load false (AckFirst 255)) (byteSent 255) (heardSent 255) (idle c xs counter true load false AckByte)
+  unfolding byteSent heardSent
+  register-sent counter mark load = then (bits-sent (second 255) counter mark load 255 (omega arith)) (register-acked counter mark load (bitOf 255 0))
+
+  -- a data byte for the register
+  pub byte-sent : (counter : ℕ) (byte : ℕ) → byte < 256
+      → Says (idle c xs counter true noLoad false AckByte) (byteSent byte) (heardSent byte) (idle c xs counter true (loaded noLoad 0 byte) false AckByte)
+  unfolding byteSent heardSent
+  byte-sent counter byte h = then (bits-sent more counter true noLoad byte h) (byte-acked counter (bitOf byte 0) byte)
+
+  -- a data byte for the array, with PEL set
+  pub data-sent : (counter : ℕ) (load : Load) (byte : ℕ) → enabled (c .part) (c .register .pel) ≡ true → byte < 256
+      → Says (idle c xs counter false load false AckByte) (byteSent byte) (heardSent byte) (idle c xs (nextPlace counter) false (loaded load counter byte) false AckByte)
+  unfolding byteSent heardSent
+  data-sent counter load byte on h = then (bits-sent more counter false load byte h) (data-acked counter load (bitOf byte 0) byte on)

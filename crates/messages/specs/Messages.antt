@@ -5,7 +5,8 @@
 -- | `begin`, `end` | the events 3, 1 and 0, 1, 3: a START, and a rightly placed STOP |
 -- | `byteSent`, `bytesSent` | a byte that the master sends, in nine clocks; a row of them |
 -- | `slaveByte` | 1010, the select, read or write |
--- | `message select address bytes` | START, slave byte with write, two address bytes, data bytes, STOP |
+-- | `messageBytes select address bytes` | slave byte with write, two address bytes, data bytes |
+-- | `message select address bytes` | START, these bytes, STOP |
 -- | `registerWrite select byte` | the same with one byte at the register's address |
 use Prim.Native.Nat.{ℕ, _+_, _*_, _/_, _%_}
 use mathlib.Core.Bool.{Bool, true, false}
@@ -35,8 +36,11 @@ abbrev pub slaveByte : ℕ → Bool → ℕ
 slaveByte select reads = 0b1010 * 16 + select * 2 + weight reads 1
 
 -- W5: the address high byte first
+abbrev pub messageBytes : ℕ → ℕ → List ℕ → List ℕ
+messageBytes select address bytes = slaveByte select false ∷ address / 256 ∷ address % 256 ∷ bytes
+
 abbrev pub message : ℕ → ℕ → List ℕ → List Wires
-message select address bytes = begin ++ bytesSent (slaveByte select false ∷ address / 256 ∷ address % 256 ∷ bytes) ++ end
+message select address bytes = begin ++ bytesSent (messageBytes select address bytes) ++ end
 
 -- T10: the address FFFFh is the register's
 abbrev pub registerWrite : ℕ → ℕ → List Wires
