@@ -66,6 +66,35 @@ static void a_locked_sector_stays(void **state)
     assert_int_equal(board.array[GATE * CREP_RECORD], 0xff);
 }
 
+/* The driver plays the events of crep_send as they are, up to the wait for the cycle. */
+static void the_kit_sends_a_record(void **state)
+{
+    static uint8_t trace[CREP_TRACE], events[CREP_SEND];
+    uint16_t n;
+
+    board.trace = trace;
+    board.trace_room = sizeof trace;
+    board_new(CREP_X24128, SELECT);
+    board.polls = 3;
+    board.trace_len = 0;
+    assert_true(memory_send_record(SELECT, GATE, *state));
+    assert_int_equal(board_note(), CREP_NOTE_STORED);
+    assert_memory_equal(board.array + GATE * CREP_RECORD, *state, CREP_RECORD);
+    board_taken(crep_send(SELECT, GATE, *state, CREP_RECORD, events, sizeof events, &n));
+    assert_memory_equal(trace, events, n - 1);
+}
+
+/* With RPEL set the first message takes the locks away and the second is not heard: the driver says so. */
+static void rpel_must_be_clear(void **state)
+{
+    board.polls = 3;
+    board.chip.bl = 3;
+    board.chip.rpel = 1;
+    assert_false(memory_send_record(SELECT, GATE, *state));
+    assert_int_equal(board_note(), CREP_NOTE_REGISTER);
+    assert_int_equal(board.chip.bl, 0);
+}
+
 /* What was recorded, run by crep_run on a new chip, ends in the same chip and array. */
 static void a_trace_runs_again(void **state)
 {
@@ -120,6 +149,8 @@ int main(void)
         cmocka_unit_test_setup(a_record_comes_back, new_board),
         cmocka_unit_test_setup(the_driver_waits, new_board),
         cmocka_unit_test_setup(a_locked_sector_stays, new_board),
+        cmocka_unit_test_setup(the_kit_sends_a_record, new_board),
+        cmocka_unit_test_setup(rpel_must_be_clear, new_board),
         cmocka_unit_test_setup(a_trace_runs_again, new_board),
         cmocka_unit_test_setup(one_pin_at_a_time, new_board),
     };

@@ -1,6 +1,7 @@
 #include "driver.h"
 
 #include "board.h"
+#include "crepulanter.h"
 
 enum { SLAVE_WRITE = 0xa0, SLAVE_READ = 0xa1, SECTOR = 32, PULSES = 10, POLLS = 1000 };
 
@@ -134,4 +135,46 @@ int memory_write_sector(uint8_t select, unsigned sector, const uint8_t *bytes)
 int memory_read_sector(uint8_t select, unsigned sector, uint8_t *bytes)
 {
     return memory_read(select, (uint16_t)(sector * SECTOR), bytes, SECTOR);
+}
+
+/* One sample on the pins; the protect pin, bit 2 of the event, is not the driver's. */
+static uint8_t play_sample(uint8_t event)
+{
+    board_wires((event & CREP_SCL) != 0, (event & CREP_SDA) != 0);
+    return event & (CREP_SCL | CREP_SDA);
+}
+
+/* Clocks count from each START, the data wire falling with the clock high: every ninth is an acknowledge. */
+int memory_play(uint8_t select, const uint8_t *events, size_t n)
+{
+    uint8_t before, now = CREP_SCL | CREP_SDA;
+    int clocks = 0;
+    size_t i;
+
+    for (i = 0; i < n; i++) {
+        if (events[i] == CREP_DONE) {
+            if (!memory_wait(select, POLLS))
+                return 0;
+            continue;
+        }
+        before = now;
+        now = play_sample(events[i]);
+        if (before == (CREP_SCL | CREP_SDA) && now == CREP_SCL)
+            clocks = 0;
+        if (!(before & CREP_SCL) && (now & CREP_SCL) && ++clocks % 9 == 0 && board_line()) {
+            wires_stop();
+            return 0;
+        }
+    }
+    return 1;
+}
+
+/* The library links on the host alone: on a panel leave this out, and play events that crep_send wrote on the host. */
+int memory_send_record(uint8_t select, uint16_t gate, const uint8_t *record)
+{
+    static uint8_t events[CREP_SEND];
+    uint16_t n;
+
+    return crep_send(select, gate, record, SECTOR, events, sizeof events, &n) == CREP_OK
+        && memory_play(select, events, n);
 }

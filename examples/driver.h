@@ -32,4 +32,12 @@ int memory_wait(uint8_t select, int polls);
 int memory_write_sector(uint8_t select, unsigned sector, const uint8_t *bytes);
 int memory_read_sector(uint8_t select, unsigned sector, uint8_t *bytes);
 
+/* Plays events as crep_send writes them, from wires that are let go: samples on the pins, and where CREP_DONE stands
+ * the cycle is waited out. At the first byte that is not acknowledged it makes a stop and plays no more. */
+int memory_play(uint8_t select, const uint8_t *events, size_t n);
+
+/* A gate's record as crep_send spells it: PEL set, 32 bytes written, the cycle waited out. 0 also where crep_send
+ * refuses, and no pin moves then. A chip whose RPEL may be set is powered up first, see crepulanter.h. */
+int memory_send_record(uint8_t select, uint16_t gate, const uint8_t *record);
+
 #endif

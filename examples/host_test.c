@@ -1,7 +1,8 @@
 /*
  * A firmware's test on the host: the driver of driver.c runs on the board of board.c in place of a panel. It writes a
- * gate's record and reads it back, shows what a label of 27 characters does, hangs the bus and frees it. Prints a
- * report; the exit status is 1 where a step did not go as expected, 2 where the test itself went wrong.
+ * gate's record and reads it back, shows what a label of 27 characters does, hangs the bus and frees it, and plays the
+ * events of crep_send. Prints a report; the exit status is 1 where a step did not go as expected, 2 where the test
+ * itself went wrong.
  */
 #include <stdio.h>
 #include <string.h>
@@ -9,7 +10,7 @@
 #include "board.h"
 #include "driver.h"
 
-enum { GATE = 7, SELECT = 2, POLLS = 3 };
+enum { GATE = 7, SENT = 17, LOCKED = 511, SELECT = 2, POLLS = 3 };
 
 static const char label[] = "NORTH YARD";
 static const char long_label[] = "NORTH YARD, DELIVERIES ONLY";
@@ -148,6 +149,39 @@ static void report_hang(void)
     printf("\n");
 }
 
+/* The record in a gate's sector, read over the wires, is the one at hand. */
+static int comes_back(unsigned gate)
+{
+    uint8_t bytes[CREP_RECORD];
+
+    return memory_read_sector(SELECT, gate, bytes) && memcmp(bytes, record, sizeof bytes) == 0;
+}
+
+static void send_on(uint8_t part, const char *text)
+{
+    board_new(part, SELECT);
+    board.polls = POLLS;
+    step(memory_send_record(SELECT, SENT, record) && board_note() == CREP_NOTE_STORED, text);
+    step(comes_back(SENT), "read back over the wires: the record");
+}
+
+static void report_sender(void)
+{
+    uint8_t copy[CREP_RECORD];
+
+    memcpy(copy, record, sizeof copy);
+    copy[0] ^= 1;
+    printf("4. crep_send spells the messages and the driver plays them: gate 17\n");
+    send_on(CREP_X24128, "X24128: 39 bytes acknowledged, stored (note 1), cycle waited out");
+    send_on(CREP_X24F128, "X24F128: the same");
+    step(!memory_send_record(SELECT, SENT, copy) && comes_back(SENT),
+         "a record with a limit changed past the kit: its sum is wrong, nothing is sent");
+    board.chip.bl = 1;
+    step(memory_send_record(SELECT, LOCKED, record) && board_note() == CREP_NOTE_LOCKED && !comes_back(LOCKED),
+         "gate 511 with BL 1: every byte acknowledged, but the sector is locked and stays (note 4)");
+    printf("\n");
+}
+
 int main(void)
 {
     printf("Gate memory on the bench: X24128, select %d, gate %d in sector %d\n\n", SELECT, GATE, GATE);
@@ -157,6 +191,7 @@ int main(void)
     report_long_label();
     report_other_part();
     report_hang();
+    report_sender();
     if (wrong)
         printf("%d steps WRONG\n", wrong);
     else

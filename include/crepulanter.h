@@ -1,5 +1,6 @@
 /*
- * crepulanter.h: a model of the X24128 and X24F128 memory chips, and gate records, for tests that run on the host.
+ * crepulanter.h: a model of the X24128 and X24F128 memory chips, gate records and the events that send one, for tests
+ * that run on the host.
  * C99 or C++98 and later; the library behind it, libcrepulanter.a, links on x86-64 Linux.
  *
  * Let your bit-banging driver call crep_event in place of its port pins, and read in the answers what the chip would
@@ -59,8 +60,8 @@
 extern "C" {
 #endif
 
-#define CREP_VERSION "0.2.1"
-#define CREP_VERSION_NUMBER 200         /* the same for #if: 10000 * first + 100 * second + third */
+#define CREP_VERSION "0.3.0"
+#define CREP_VERSION_NUMBER 300         /* the same for #if: 10000 * first + 100 * second + third */
 
 /* Before a call whose result must not be dropped: the compiler warns where it is. */
 #if defined(__GNUC__)
@@ -78,6 +79,7 @@ extern "C" {
 #define CREP_LABEL 24           /* the longest label */
 #define CREP_TRACE 65536        /* the longest trace of one crep_run */
 #define CREP_PULSES 10          /* the most pulses that crep_recover makes */
+#define CREP_SEND 713           /* events that crep_send writes */
 #define CREP_STATE 81           /* bytes of a struct crep_chip */
 
 /* ---- Parts, events, answers ---- */
@@ -113,12 +115,14 @@ extern "C" {
  *     crep_event          1 2 6                  crep_record_limits  7 12 13 14 10 11
  *     crep_run            1 2 4 5 6              crep_record_read    7 12 13 14
  *     crep_recover        1 2                    crep_name           none
+ *     crep_send           7 12 13 14 15 16 17
  *
  * A refused call runs nothing and changes neither the chip, nor the array, nor any buffer. What it does write:
  *     crep_new          the standard chip (X24128, select 0) into *chip
  *     crep_event        1 into *answer (line high, note 0)
  *     crep_recover      0 into *pulses
  *     crep_record_read  0 into each of its five numbers
+ *     crep_send         0 into *events
  */
 #define CREP_OK 0
 #define CREP_REFUSED_ARRAY_LENGTH 1     /* array_len is not 16384 */
@@ -135,6 +139,9 @@ extern "C" {
 #define CREP_REFUSED_STATE_BYTE 12      /* state byte is not A5h (reading: and the record is not free) */
 #define CREP_REFUSED_SUM 13             /* the record's sum is wrong */
 #define CREP_REFUSED_LAYOUT 14          /* length, label, padding or limits are against the layout */
+#define CREP_REFUSED_GATE 15            /* gate above 511 */
+#define CREP_REFUSED_SELECT 16          /* crep_send: select above 7 */
+#define CREP_REFUSED_EVENTS_LENGTH 17   /* crep_send: trace_len below 713 */
 
 /* ---- The chip ---- */
 
@@ -250,6 +257,26 @@ CREP_CHECKED uint8_t crep_record_read(const uint8_t *record, size_t record_len, 
 uint8_t crep_name(const uint8_t *record, size_t record_len, const uint8_t *standard, size_t standard_len,
                   size_t *start, size_t *len, uint8_t *from_record);
 
+/* ---- Sending a record ---- */
+
+/*
+ * Writes into trace the 713 events that send a gate's record: a message that sets PEL (02h to the register), a message
+ * with the 32 bytes at address 32 * gate, then CREP_DONE; the protect pin is low in all. *events is CREP_SEND, and the
+ * bytes of trace past it stay. It is the firmware's own routine and needs no chip: a driver plays the samples on its
+ * two pins and waits out the cycle where CREP_DONE stands; crep_run plays them on the model.
+ *
+ * They are for a chip of either part with the same select, idle in standby, RPEL 0, its load empty and the data wire
+ * high, as crep_new and a power-up leave it. All 39 bytes are acknowledged. An unlocked sector then holds the record
+ * (note 3 at event 76, note 1 at 711), a locked one stays (note 4 at 711), and every other byte of the array is kept.
+ * The chip is idle in standby again, PEL 1, PPEN and BL as before.
+ * WARNING: on a chip with RPEL 1 the first message is a register write that sets PPEN 0 and BL 0: it unlocks the chip,
+ * and the record is not stored (note 2 at event 76, no acknowledge after it). A power-up clears RPEL, and so does a
+ * write to any unlocked sector.
+ * Refuses with 7, 12 (here for a free record too), 13, 14 by reading the record, then 15, 16, 17; *events is then 0.
+ */
+CREP_CHECKED uint8_t crep_send(uint8_t select, uint16_t gate, const uint8_t *record, size_t record_len,
+                               uint8_t *trace, size_t trace_len, uint16_t *events);
+
 /* ---- Texts ---- */
 
 /* What a note says, in words. */
@@ -287,10 +314,13 @@ static inline const char *crep_refusal_text(int refusal)
         "the two limits are equal",
         "state byte is not A5h: no gate's record",
         "the record's sum is wrong",
-        "length, label, padding or limits against the layout"
+        "length, label, padding or limits against the layout",
+        "gate number above 511",
+        "select above 7",
+        "buffer shorter than 713 events"
     };
 
-    return refusal >= 0 && refusal <= CREP_REFUSED_LAYOUT ? texts[refusal] : "no such refusal";
+    return refusal >= 0 && refusal <= CREP_REFUSED_EVENTS_LENGTH ? texts[refusal] : "no such refusal";
 }
 
 /* The library reads a chip as CREP_STATE bytes in a row. */

@@ -1,6 +1,6 @@
 /*
- * The paper's worked cases 1 to 13, its errors that look right, and demand 3 on random noise, on the model and on
- * the library. What is expected stands here as the paper gives it.
+ * The paper's worked cases 1 to 13, its errors that look right, demand 3 on random noise, and what the request for the
+ * sender says, on the model and on the library. What is expected stands here as the paper gives it.
  */
 #include <stdio.h>
 #include <string.h>
@@ -364,6 +364,147 @@ static int demand_3(const struct kit *kit)
     return 1;
 }
 
+/* ---- The sender ---- */
+
+static uint8_t north[CREP_RECORD];      /* the record of case 4 */
+
+/* A new chip with this select, and on its trace what sends case 4's record to a gate of it. Returns the refusal. */
+static uint8_t open_send(const struct kit *kit, uint8_t part, uint8_t select, uint16_t gate)
+{
+    uint16_t events;
+    uint8_t refusal;
+
+    open_bench(kit, part);
+    bench.chip.select = select;
+    refusal = kit->record_write(north, sizeof north, 0, 1200, (const uint8_t *)"NORTH", 5);
+    if (refusal == 0)
+        refusal = kit->send(select, gate, north, sizeof north, bench.trace, CREP_SEND, &events);
+    bench.wire.len = refusal == 0 ? events : 0;
+    return refusal;
+}
+
+/* Runs what was sent: these notes at events 76 and 711, 0 at all others. */
+static int notes_are(int first, int second)
+{
+    int i, good = last_note() == 0 && bench.wire.len == 713;
+
+    for (i = 0; i < 713; i++)
+        good = good && CREP_NOTE(bench.answers[i]) == (i == 76 ? first : i == 711 ? second : 0);
+    return good;
+}
+
+/* Gate 17: 02h to FFFFh and the record to 0220h, each from 3, 1 to 0, 1, 3 with the pin low, and 8 at the end. */
+static int spelt(uint8_t select)
+{
+    static const uint8_t command = 0x02;
+    static uint8_t wanted[713];
+    struct wire wire;
+
+    wire_open(&wire, wanted, sizeof wanted);
+    wire_write(&wire, select, 0xffff, &command, 1);
+    wire_write(&wire, select, 0x0220, north, sizeof north);
+    wire_event(&wire, 8);
+    return wire.len == 713 && memcmp(bench.trace, wanted, sizeof wanted) == 0;
+}
+
+/* Gate 17 stands at 0220h afterwards on either part, every other byte is kept, and the chip is idle with PEL 1. */
+static int gate_17_is_sent(const struct kit *kit)
+{
+    static uint8_t wanted[CREP_ARRAY];
+    uint8_t part;
+    int good = 1;
+
+    for (part = 0; part < 2; part++) {
+        good = good && open_send(kit, part, (uint8_t)(7 * part), 17) == 0 && spelt((uint8_t)(7 * part));
+        memset(wanted, 0xff, sizeof wanted);
+        memcpy(wanted + 0x220, north, sizeof north);
+        good = good && notes_are(3, 1) && memcmp(bench.array, wanted, sizeof wanted) == 0;
+        good = good && bench.chip.pel && !bench.chip.busy && bench.chip.phase == CREP_PHASE_STANDBY;
+    }
+    return good;
+}
+
+/* BL 1 locks gate 384 and not gate 383; PPEN and BL stay. */
+static int locked_gates_stay(const struct kit *kit)
+{
+    uint8_t part;
+    int good = 1;
+
+    for (part = 0; part < 2; part++) {
+        good = good && open_send(kit, part, 3, 384) == 0;
+        bench.chip.ppen = bench.chip.bl = 1;
+        good = good && notes_are(3, 4) && bench.array[0x3000] == 0xff && bench.chip.ppen == 1 && bench.chip.bl == 1;
+        good = good && open_send(kit, part, 3, 383) == 0;
+        bench.chip.ppen = bench.chip.bl = 1;
+        good = good && notes_are(3, 1) && bench.array[0x2fe2] == 0x04 && bench.chip.ppen == 1 && bench.chip.bl == 1;
+    }
+    return good;
+}
+
+/* With RPEL 1 the first message is a register write, and the chip is busy in the second. */
+static int rpel_unlocks(const struct kit *kit)
+{
+    int good = open_send(kit, 0, 0, 17) == 0;
+
+    bench.chip.ppen = bench.chip.pel = bench.chip.rpel = 1;
+    bench.chip.bl = 3;
+    return good && notes_are(2, 0) && bench.chip.ppen == 0 && bench.chip.bl == 0 && bench.array[0x220] == 0xff;
+}
+
+/* One sending with rubbish before it: the refusal that is given where it counts no events and writes none; else 255. */
+static uint8_t refusal_of(const struct kit *kit, uint8_t select, uint16_t gate, const uint8_t *record, size_t n,
+                          size_t room)
+{
+    static uint8_t before[CREP_SEND + 1];
+    uint16_t events = 1;
+    uint8_t refusal;
+
+    memset(before, 0x77, sizeof before);
+    memset(bench.trace, 0x77, sizeof before);
+    refusal = kit->send(select, gate, record, n, bench.trace, room, &events);
+    if (refusal == 0)
+        return events == 713 && bench.trace[713] == 0x77 ? 0 : 255;
+    return events == 0 && memcmp(bench.trace, before, sizeof before) == 0 ? refusal : 255;
+}
+
+/* 7, 12 (free too), 13, 14, 15, 16, 17, each at its edge and before the next. */
+static int sender_refuses(const struct kit *kit)
+{
+    static uint8_t empty[32], bad[33];
+
+    memset(empty, 0xff, sizeof empty);
+    if (open_send(kit, 0, 0, 0) != 0)
+        return 0;
+    memcpy(bad, north, 32);
+    bad[29] = 0x21;
+    bad[4] = 0xa4;
+    if (refusal_of(kit, 8, 512, bad, 31, 712) != 7 || refusal_of(kit, 8, 512, bad, 33, 712) != 7
+        || refusal_of(kit, 0, 0, empty, 31, 713) != 7 || refusal_of(kit, 0, 0, empty, 32, 713) != 12
+        || refusal_of(kit, 8, 512, bad, 32, 712) != 12)
+        return 0;
+    bad[4] = 0xa5;
+    if (refusal_of(kit, 8, 512, bad, 32, 712) != 13)
+        return 0;
+    bad[31]++;
+    return refusal_of(kit, 8, 512, bad, 32, 712) == 14 && refusal_of(kit, 8, 512, north, 32, 712) == 15
+        && refusal_of(kit, 8, 511, north, 32, 712) == 16 && refusal_of(kit, 7, 511, north, 32, 712) == 17
+        && refusal_of(kit, 7, 511, north, 32, 713) == 0 && refusal_of(kit, 7, 511, north, 32, 714) == 0;
+}
+
+/* ---- The header ---- */
+
+/* CREP_VERSION_NUMBER is CREP_VERSION by its own rule; each refusal has a text. */
+static int header_agrees(const struct kit *kit)
+{
+    int first, second, third;
+
+    (void)kit;
+    return sscanf(CREP_VERSION, "%d.%d.%d", &first, &second, &third) == 3
+        && CREP_VERSION_NUMBER == 10000 * first + 100 * second + third
+        && strcmp(crep_refusal_text(17), "buffer shorter than 713 events") == 0
+        && strcmp(crep_refusal_text(18), "no such refusal") == 0;
+}
+
 static const struct {
     const char *text;
     int (*holds)(const struct kit *);
@@ -385,6 +526,11 @@ static const struct {
     { "-   the pin is read at the STOP", pin_is_read_at_the_stop },
     { "-   new limits keep the label", limits_keep_the_label },
     { "-   demand 3 on 500 random noises", demand_3 },
+    { "-   gate 17 sent: 713 events, notes at 76 and 711", gate_17_is_sent },
+    { "-   BL 1: gate 384 stays, note 4; 383 is sent", locked_gates_stay },
+    { "-   RPEL 1: the sender unlocks and stores nothing", rpel_unlocks },
+    { "-   what the sender refuses, and in which order", sender_refuses },
+    { "-   the header's version and refusal texts", header_agrees },
 };
 
 int main(void)

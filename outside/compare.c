@@ -1,6 +1,6 @@
 /*
  * Compares the library with the independent model: random and structured traces on both parts, chips in and out of
- * range, all refusals, recoveries, records and names. Stops at the first difference and prints it in full.
+ * range, all refusals, recoveries, records, names, sendings. Stops at the first difference and prints it in full.
  *
  *     compare [-s SEED] [-n EVENTS] [-r ROUND]
  *
@@ -32,6 +32,7 @@ static const struct {
     { compare_record_limits, 30 },
     { compare_record_read, 30 },
     { compare_name, 15 },
+    { compare_send, 15 },
 };
 
 static int run_round(uint64_t round)

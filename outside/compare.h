@@ -13,5 +13,6 @@ int compare_record_write(struct chance *chance);
 int compare_record_limits(struct chance *chance);
 int compare_record_read(struct chance *chance);
 int compare_name(struct chance *chance);
+int compare_send(struct chance *chance);                /* then its events on a chip */
 
 #endif

@@ -273,9 +273,25 @@ static void fuzz_name(struct chance *chance)
     take_all_back(5);
 }
 
+static void fuzz_send(struct chance *chance)
+{
+    size_t n, m = stir_length(chance, CREP_SEND, 1000);
+    uint8_t *record = lend_record(chance, 0, &n), *trace = lend(chance, 1, m), refusal;
+    uint16_t *events = (uint16_t *)(void *)lend(chance, 2, sizeof *events), gate = (uint16_t)chance_below(chance, 600);
+    uint8_t select = (uint8_t)chance_below(chance, 10);
+
+    if (chance_once_in(chance, 10))
+        gate = (uint16_t)chance_word(chance);
+    keep(0);
+    doing = "crep_send";
+    refusal = crep_send(select, gate, record, n, trace, m, events);
+    check(refusal <= 17 && *events == (refusal ? 0 : CREP_SEND));
+    take_all_back(3);
+}
+
 static void (*const calls[])(struct chance *) = {
     fuzz_new, fuzz_event, fuzz_event, fuzz_run, fuzz_recover, fuzz_record_write, fuzz_record_limits, fuzz_record_read,
-    fuzz_name,
+    fuzz_name, fuzz_send,
 };
 
 int main(int argc, char **argv)

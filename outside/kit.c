@@ -9,10 +9,10 @@
 
 const struct kit kit_library = {
     LIBRARY, crep_new, crep_event, crep_run, crep_recover, crep_record_write, crep_record_limits, crep_record_read,
-    crep_name,
+    crep_name, crep_send,
 };
 
 const struct kit kit_model = {
     "model", model_new, model_event, model_run, model_recover, model_record_write, model_record_limits,
-    model_record_read, model_name,
+    model_record_read, model_name, model_send,
 };

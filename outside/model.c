@@ -6,6 +6,8 @@
 
 #include <string.h>
 
+#include "wire.h"
+
 /* Where the chip is in a transfer; the numbers are those of the C interface. */
 enum phase {
     STANDBY,
@@ -677,16 +679,21 @@ uint8_t model_record_read(const uint8_t *record, size_t record_len, int32_t *clo
     return 0;
 }
 
-/* New limits in a good record: what reading refuses (a free record is no gate's: 12), then 10 and 11. */
-uint8_t model_record_limits(uint8_t *record, size_t record_len, int32_t closed, int32_t opened)
+/* What a call refuses that needs a gate's record: what reading does, and a free record, which is no gate's, as 12. */
+static uint8_t refuse_no_gate(const uint8_t *record, size_t record_len)
 {
     enum reading reading = read_record(record, record_len);
-    uint8_t refusal = refuse_limits(closed, opened);
 
-    if (reading == FREE)
-        return BAD_STATE;
-    if (reading != GOOD)
-        return (uint8_t)reading;
+    return (uint8_t)(reading == FREE ? BAD_STATE : reading);
+}
+
+/* New limits in a good record; 10 and 11 come after what is wrong with the record. */
+uint8_t model_record_limits(uint8_t *record, size_t record_len, int32_t closed, int32_t opened)
+{
+    uint8_t refusal = refuse_no_gate(record, record_len);
+
+    if (!refusal)
+        refusal = refuse_limits(closed, opened);
     if (refusal)
         return refusal;
     put_limits(record, closed, opened);
@@ -708,5 +715,39 @@ uint8_t model_name(const uint8_t *record, size_t record_len, const uint8_t *stan
     *from_record = n > 0;
     *start = n > 0 ? LABEL : 0;
     *len = n > 0 ? n : standard_len;
+    return 0;
+}
+
+/* ---- Sending a record (request T-01) ---- */
+
+/* The record first, then 15, 16, 17. */
+static uint8_t refuse_send(uint8_t select, uint16_t gate, const uint8_t *record, size_t record_len, size_t trace_len)
+{
+    uint8_t refusal = refuse_no_gate(record, record_len);
+
+    if (refusal)
+        return refusal;
+    if (gate > 511)
+        return 15;
+    if (select > 7)
+        return 16;
+    return trace_len < 713 ? 17 : 0;
+}
+
+/* Both messages are spelt as case 13 spells its one: PEL set, the record at 32 times the gate number, program-done. */
+uint8_t model_send(uint8_t select, uint16_t gate, const uint8_t *record, size_t record_len,
+                   uint8_t *trace, size_t trace_len, uint16_t *events)
+{
+    uint8_t refusal = refuse_send(select, gate, record, record_len, trace_len);
+    struct wire wire;
+
+    *events = 0;
+    if (refusal)
+        return refusal;
+    wire_open(&wire, trace, trace_len);
+    wire_register(&wire, select, 0x02);
+    wire_write(&wire, select, gate * 32u, record, RECORD);
+    wire_event(&wire, 8);
+    *events = (uint16_t)wire.len;
     return 0;
 }

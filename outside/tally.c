@@ -30,10 +30,12 @@ int tally_print(void)
     int missing;
 
     printf("  %" PRIu64 " events one by one, %" PRIu64 " in traces, %" PRIu64 " recoveries, %" PRIu64 " records, %"
-           PRIu64 " names\n", tally.events, tally.traced, tally.recoveries, tally.records, tally.names);
+           PRIu64 " names, %" PRIu64 " sends\n", tally.events, tally.traced, tally.recoveries, tally.records,
+           tally.names, tally.sends);
     missing = row("notes", tally.notes, 0, 7);
-    missing += row("refusals", tally.refusals, 0, 14);
+    missing += row("refusals", tally.refusals, 0, 17);
     missing += row("phases", tally.phases, 0, 11);
     missing += row("pulses", tally.pulses, 1, 10);
+    missing += row("locked", tally.locked, 0, 1);
     return missing;
 }

@@ -6,11 +6,12 @@
 
 struct tally {
     uint64_t seed, round;       /* `compare -s SEED -r ROUND` comes back to this round */
-    uint64_t events, traced, recoveries, records, names;
+    uint64_t events, traced, recoveries, records, names, sends;
     uint64_t notes[8];
-    uint64_t refusals[15];
+    uint64_t refusals[18];
     uint64_t phases[12];
     uint64_t pulses[11];
+    uint64_t locked[2];         /* records sent to a chip for which they are: its sector not locked, locked */
 };
 
 extern struct tally tally;
@@ -18,7 +19,7 @@ extern struct tally tally;
 /* Prints where the comparison stands, as the head of a report of a difference. */
 void tally_difference(const char *call);
 
-/* Prints the counts. Returns how many notes, refusals, phases and pulse numbers were never reached. */
+/* Prints the counts. Returns how many notes, refusals, phases, pulse numbers and kinds of sector were never reached. */
 int tally_print(void);
 
 #endif

@@ -197,6 +197,26 @@ static void on_record(int c)
     }
 }
 
+/* ---- Sending: what is lent of the array is the record, what is lent as answers is lent of the tape ---- */
+
+static void send_record(void)
+{
+    uint16_t events = BEFORE;
+    unsigned long sum = 0;
+    uint8_t refusal;
+    size_t i;
+
+    if (room > sizeof array || space_lent > sizeof tape)
+        return;
+    refusal = model_send((uint8_t)(value / 65536 % 256), (uint16_t)(value % 65536), array, room, tape, space_lent, &events);
+    refused(refusal);
+    for (i = 0; i < sizeof tape; i++)
+        sum = (sum + tape[i]) % 65536;
+    printf("=%04x,%05lx", events, sum);
+    if (refusal == 0)
+        length = events;
+}
+
 /* ---- Looking and setting ---- */
 
 static void show(void)
@@ -275,6 +295,7 @@ static void order(int c)
     case 'k': burst(value); break;
     case 'v': recover(); break;
     case 't': run_tape(); break;
+    case 'S': send_record(); break;
     case 'n': new_chip(n); break;
     case 'i': show(); break;
     case 'h': show_load(); break;

@@ -4,6 +4,7 @@ mod at;
 mod chips;
 mod packing;
 mod records;
+mod sending;
 mod unpacking;
 
 pub use chips::crep_event;
@@ -14,3 +15,4 @@ pub use records::crep_name;
 pub use records::crep_record_limits;
 pub use records::crep_record_read;
 pub use records::crep_record_write;
+pub use sending::crep_send;

@@ -1,4 +1,6 @@
 pub mod Cases
 pub mod Demand3
 pub mod OneAnswer
+pub mod Sender
+pub mod SenderRuns
 pub mod Witness

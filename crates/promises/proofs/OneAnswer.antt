@@ -32,6 +32,8 @@ use Rattle.gate.specs.Reading.{readOf}
 use Rattle.gate.specs.Answer.{givenOf}
 use Rattle.gate.specs.Writing.{writeOf, writtenOf}
 use Rattle.gate.proofs as gate
+use Rattle.sender.specs.Sending.{sentOf, sentBuffer}
+use Rattle.sender.proofs as sender
 use Rattle.report.specs.Report.{reportOf}
 use Rattle.report.proofs as report
 use Rattle.crepulanter.proofs as crepulanter
@@ -205,6 +207,10 @@ operations =
     ∷ one shownName
     (λ κs (bytes, (standard, end)). (nameOf (now bytes) (now standard), (tt, (tt, tt))))
     (λ κs input r left. alone)
+    -- sender::send
+    ∷ one (whole 2 sender.send.Kinds.ps sender.send.Kinds.r sender.send.Reads.Post)
+    (λ κs (number, (bytes, (select, (events, end)))). (sentOf number (now bytes) select (now events), (tt, (tt, (tt, (sentBuffer number (now bytes) select (now events), tt))))))
+    (λ κs input r left p i. (p .0 i, (tt, (tt, (tt, (p .1 i, tt))))))
     -- report::write_report
     ∷ one (whole 2 report.write_report.Kinds.ps report.write_report.Kinds.r report.write_report.Reads.Post)
     (λ κs (chip, (bytes, (page, end))). (length (reportOf chip (now bytes)), (tt, (tt, (reportOf chip (now bytes) ++ drop (length (reportOf chip (now bytes))) (now page), tt)))))
@@ -233,4 +239,7 @@ operations =
     -- crep_name
     ∷ by-parts (whole 5 crepulanter.crep_name.Kinds.ps crepulanter.crep_name.Kinds.r crepulanter.crep_name.Reads.Post)
     (λ κs input r r′ left left′ p q i. (both (p .returned) (q .returned) i, (tt, (tt, (both (p .first) (q .first) i, (both (p .counted) (q .counted) i, (both (p .within) (q .within) i, tt)))))))
+    -- crep_send
+    ∷ by-parts (whole 3 crepulanter.crep_send.Kinds.ps crepulanter.crep_send.Kinds.r crepulanter.crep_send.Reads.Post)
+    (λ κs input r r′ left left′ p q i. (both (p .returned) (q .returned) i, (tt, (tt, (tt, (both (p .trace) (q .trace) i, (both (p .counted) (q .counted) i, tt)))))))
     ∷ []

@@ -1,11 +1,12 @@
-// The vectors: a script on standard input drives chips, traces, recovery and records, and each order is written again with what
-// came of it.
+// The vectors: a script on standard input drives chips, traces, recovery, records and the sender, and each order is written again
+// with what came of it.
 mod alter;
 mod count;
 mod desk;
 mod orders;
 mod records;
 mod say;
+mod sending;
 mod tape;
 mod wires;
 

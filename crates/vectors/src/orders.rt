@@ -6,6 +6,7 @@ use crate::desk::Array;
 use crate::desk::Desk;
 use crate::records;
 use crate::say;
+use crate::sending;
 use crate::tape;
 use crate::wires;
 use crate::wires::Tape;
@@ -69,6 +70,7 @@ fn run(d: Desk, array: &mut Array, tape: &mut Tape, order: u8) -> Desk {
         b'k' => desk::burst(d, array, tape, value),
         b'v' => tape::recover(d, array),
         b't' => tape::run_tape(d, array, tape),
+        b'S' => sending::send_record(d, array, tape),
         b'n' => new_chip(d, array, (value % 256) as u8),
         _ => d,
     }

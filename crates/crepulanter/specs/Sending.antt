@@ -1,0 +1,15 @@
+-- What sending a gate's record answers to C. (RULES K9.)
+--
+-- | Name | Meaning |
+-- |---|---|
+-- | `SendSays` | the number of the refusal or 0, the trace at exit, and how many events were written |
+use Prim.Native.Nat.{ℕ}
+use mathlib.Core.Path.{_≡_}
+use mathlib.Core.List.{List}
+use Rattle.sender.specs.Sending.{sentOf, sentBuffer}
+
+-- K9: a refusal leaves the trace and reports 0 events
+pub record SendSays (select gate : ℕ) (bytes old : List ℕ) (r : ℕ) (told : List ℕ) (events : ℕ) : Type 0 where
+  pub returned : r ≡ sentOf gate bytes select old .refusal
+  pub trace : told ≡ sentBuffer gate bytes select old
+  pub counted : events ≡ sentOf gate bytes select old .count

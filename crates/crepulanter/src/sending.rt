@@ -1,0 +1,20 @@
+// The function that sends a gate's record.
+ghost use Rattle.crepulanter.specs.Sending.{SendSays};
+use sender::send;
+
+// Writes the events that put a gate's record into its sector, and leaves their number. Refused with 7, 12 (a free record too), 13, 14,
+// 15, 16 or 17 it writes nothing and leaves 0.
+#[no_mangle]
+pub extern "C" fn crep_send(
+    select: u8,
+    gate: u16,
+    bytes: &[u8],
+    trace: &mut [u8],
+    events: &mut u16,
+) -> u8
+    ensures { λ r. ⌜ SendSays select gate (now (bytes .entry)) (now (trace .entry)) r (now (trace .exit)) (now (events .exit)) ⌝ }
+{
+    let sent = send(gate, bytes, select, trace);
+    *events = sent.count;
+    sent.refusal
+}

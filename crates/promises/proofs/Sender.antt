@@ -1,0 +1,245 @@
+-- The sender's events on a chip that they are for: an unlocked sector then holds the record and every other byte is kept, a locked one stays; every
+-- byte is acknowledged, and reading the sector gives back what the record says. Assumes nothing.
+use Prim.Native.Nat.{ℕ, _+_, _*_, _≤_, _<_}
+use mathlib.Core.Bool.{Bool, true, false, cond}
+use mathlib.Core.List.{List, [], _∷_, _++_, map, append-assoc, map-append}
+use mathlib.Core.Path.{_≡_, refl, ap, ap₂, sym, subst, subst₂, _∙_}
+use native.Mathlib.Omega.{arith}
+use lib.ListN.{length, drop, replicate, length-drop, getD-replicate}
+use lib.Seq.{length-take-le, getD-take, getD-drop, ext-getD}
+use Rattle.parts.specs.Load.{noLoad, stored}
+use Rattle.parts.specs.Register.{withPel, withRpel}
+use Rattle.parts.specs.Sector.{sectorStart, Bytes}
+use Rattle.parts.specs.Rows.{stepped}
+use Rattle.parts.specs.declared.phase.Phase.the-variants.{Standby}
+use Rattle.parts.proofs.LoadLaws.{length-stored, stored-at, stored-outside}
+use Rattle.chip.specs.Chip.{withTransfer, withCycle, withLevels, chipFits}
+use Rattle.chip.specs.Event.{next, nextArray, programDone, refusal}
+use Rattle.chip.specs.Run.{World, world, step, noteOf, lines, notes}
+use Rattle.chip.specs.declared.chip.Chip.{Chip}
+use Rattle.chip.specs.declared.wire.Event.{Event}
+use Rattle.chip.specs.declared.wire.Event.the-variants.{ProgramDone}
+use Rattle.chip.proofs.EventLaws.{taken-so}
+use Rattle.chip.proofs.Posed.{posed}
+use Rattle.gate.specs.Reading.{readOf}
+use Rattle.trace.specs.Bytes.{eventOf, allEvents, answerLine}
+use Rattle.trace.specs.Trace.{after, answersOf, ranOf, runArray, runAnswers}
+use Rattle.trace.proofs.ByteLaws.{lines-answered, notes-answered}
+use Rattle.trace.proofs.RunLaws.{run-taken, run-whole, run-answers}
+use Rattle.messages.specs.Messages.{begin, bytesSent, messageBytes, message, registerWrite}
+use Rattle.messages.specs.RandomRead.{AckAt, randomRead, held, Returns}
+use Rattle.messages.specs.Wires.{spelled, heardOf}
+use Rattle.messages.proofs.Held.{held-part}
+use Rattle.messages.proofs.Loading.{whole}
+use Rattle.messages.proofs.RandomRead.{rested-read, read-bytes}
+use Rattle.messages.proofs.Sending.{heardSent, twice, resting}
+use Rattle.messages.proofs.Spelling.{played-pinned, bytes-length}
+use Rattle.messages.proofs.Telling.{pinned, silent, silent-all, steady-on, Plays, plays-then}
+use Rattle.messages.proofs.Writing.{heardRow, heardMessage, toldMessage, chipThen, arrayThen, pel-message, sector-message, row-acked}
+use Rattle.sender.specs.Sending.{sentEvents, sendRefusal}
+use Rattle.sender.proofs.Sends.{Sendable, send-taken, sent-length, sent-events}
+use Rattle.promises.specs.Sender.{Ready, shutAt, ended, notesWith, Ends, sectorOf, Wrote, readBack}
+
+-- the bytes of the two messages
+abbrev pelRow : ℕ → List ℕ
+pelRow select = messageBytes select 0xffff (0x02 ∷ [])
+
+abbrev recordRow : ℕ → ℕ → List ℕ → List ℕ
+recordRow select gate bytes = messageBytes select (gate * 32) bytes
+
+-- what is heard of the events, and their notes
+abbrev heardAll : ℕ → ℕ → List ℕ → List Bool
+heardAll select gate bytes = heardMessage (pelRow select) ++ heardMessage (recordRow select gate bytes) ++ (true ∷ [])
+
+abbrev toldAll : ℕ → ℕ → List ℕ → ℕ → List ℕ
+toldAll select gate bytes note = toldMessage (pelRow select) 3 ++ toldMessage (recordRow select gate bytes) note ++ (0 ∷ [])
+
+-- the samples of the two messages, the pin low, and a program-done
+abbrev samples : ℕ → ℕ → List ℕ → List Event
+samples select gate bytes =
+    pinned (λ k. false) (registerWrite select 0x02) ++ pinned (λ k. false) (message select (gate * 32) bytes) ++ (ProgramDone ∷ [])
+
+-- they are what the event bytes stand for
+events-are : (select gate : ℕ) (bytes : List ℕ) → map eventOf (sentEvents select gate bytes) ≡ samples select gate bytes
+unfolding sentEvents eventOf
+events-are select gate bytes =
+    map-append eventOf (spelled (λ k. false) (registerWrite select 0x02 ++ message select (gate * 32) bytes)) (8 ∷ [])
+    ∙ ap (λ (es : List Event). es ++ (ProgramDone ∷ []))
+    (played-pinned (λ k. false) (registerWrite select 0x02 ++ message select (gate * 32) bytes)
+    ∙ steady-on (registerWrite select 0x02) (message select (gate * 32) bytes) false)
+
+-- a chip that they are for rests
+ready-rests : (select : ℕ) (w : World) → Ready select w → resting (w .chip) (w .array) (w .chip .counter) (w .chip .mark) (w .chip .scl) (w .chip .line) ≡ w
+ready-rests select w r i =
+    world
+    (posed (withTransfer (w .chip) (sym (r .standby) i) (w .chip .counter) (w .chip .mark) (sym (r .load) i)) (sym (r .idle) i) (w .chip .scl) (w .chip .line) (sym (r .standby) i))
+    (w .array)
+
+-- with the cycle done it is the chip that is promised
+chip-ends : (gate : ℕ) (c : Chip) (shut : Bool) → c .register .rpel ≡ false
+    → programDone (chipThen (withCycle c (withPel (c .register) true) false) (gate * 32) shut) ≡ ended gate c
+chip-ends gate c true off = refl
+chip-ends gate c false off =
+    ap (λ (rpel : Bool). withLevels (withTransfer (withCycle c (withRpel (withPel (c .register) true) rpel) false) Standby (gate * 32) false noLoad) true true) (sym off)
+
+-- the whole run, at the chip's own select
+run : (gate : ℕ) (bytes : List ℕ) → gate ≤ 511 → length bytes ≡ 32 → Bytes bytes → (c : Chip) (xs : List ℕ) (scl line shut : Bool) → c .select ≤ 7 → c .register .rpel ≡ false → shutAt gate c ≡ shut
+    → Plays (resting c xs (c .counter) (c .mark) scl line) (samples (c .select) gate bytes)
+    (heardAll (c .select) gate bytes) (toldAll (c .select) gate bytes (cond shut 4 1)) (world (ended gate c) (arrayThen xs (gate * 32) bytes shut))
+unfolding stepped lines notes noteOf step next nextArray
+run gate bytes gate-in sized byte-wide c xs scl line shut select-in off e =
+    plays-then
+    (plays-then (pel-message c xs (c .counter) (c .mark) scl line false select-in off)
+    (sector-message (withCycle c (withPel (c .register) true) false) xs 0x0000 false true true false shut gate bytes select-in refl gate-in sized byte-wide e))
+    (record { ends = ap (λ (d : Chip). world d (arrayThen xs (gate * 32) bytes shut)) (chip-ends gate c shut off); hears = refl; tells = refl })
+
+-- the notes are those that were promised
+notes-come : (select gate : ℕ) (bytes : List ℕ) (note : ℕ) → length bytes ≡ 32 → toldAll select gate bytes note ≡ notesWith note
+notes-come select gate bytes note sized =
+    ap₂ (λ (first second : List ℕ). (first ++ (0 ∷ 0 ∷ 3 ∷ []) ++ (second ++ (0 ∷ 0 ∷ note ∷ []))) ++ (0 ∷ []))
+    (row-silent (pelRow select) 4 refl)
+    (row-silent (recordRow select gate bytes) 35 (rw sized refl))
+  where
+    row-silent : (row : List ℕ) (n : ℕ) → length row ≡ n → silent (begin ++ bytesSent row) ≡ replicate (2 + n * 18) 0
+    row-silent row n h =
+        let long : length (begin ++ bytesSent row) ≡ 2 + n * 18 = rw (bytes-length row, h) (omega arith) in
+        silent-all (begin ++ bytesSent row) ∙ ap (λ (m : ℕ). replicate m 0) long
+
+-- and so are the acknowledges
+acks-set : (select gate : ℕ) (bytes : List ℕ) (k : ℕ) → k < 4 → AckAt (2 + 18 * k) (heardAll select gate bytes)
+unfolding heardRow heardSent twice
+acks-set select gate bytes k h =
+    row-acked (true ∷ false ∷ []) (pelRow select) ((false ∷ false ∷ true ∷ []) ++ (heardMessage (recordRow select gate bytes) ++ (true ∷ []))) k h
+
+acks-written : (select gate : ℕ) (bytes : List ℕ) → length bytes ≡ 32 → (k : ℕ) → k < 35 → AckAt (79 + 18 * k) (heardAll select gate bytes)
+unfolding heardRow heardSent twice
+acks-written select gate bytes sized k h =
+    subst (λ (end : List Bool). AckAt (79 + 18 * k) (heardMessage (pelRow select) ++ (true ∷ false ∷ []) ++ (heardRow (recordRow select gate []) ++ end)))
+    (sym (append-assoc (heardRow bytes) (false ∷ false ∷ true ∷ []) (true ∷ [])))
+    (row-acked (heardMessage (pelRow select) ++ (true ∷ false ∷ [])) (recordRow select gate bytes) (false ∷ false ∷ true ∷ true ∷ []) k (rw sized h))
+
+-- a whole load stored in the sector of a gate is the record there, and nothing beside it
+wrote : (gate : ℕ) (bytes xs : List ℕ) → gate ≤ 511 → length bytes ≡ 32 → length xs ≡ 16384 → Wrote gate bytes xs (stored xs (gate * 32) (whole bytes))
+wrote gate bytes xs gate-in sized all =
+    record {
+      sized = length-stored xs (gate * 32) (whole bytes);
+      sector =
+          ext-getD 0 (sectorOf gate ys) bytes (long ∙ sym sized)
+          (λ k h. let inside : k < 32 = rw long at h in
+          getD-take 32 (drop (gate * 32) ys) k 0 inside ∙ getD-drop (gate * 32) ys k 0 ∙ stored-at xs (gate * 32) (whole bytes) k inside (omega arith) ∙ (rw (getD-replicate 32 k true false inside)));
+      others = λ a apart. rw start at (stored-outside xs (gate * 32) (whole bytes) a (rw start apart));
+    }
+  where
+    ys : List ℕ
+    ys = stored xs (gate * 32) (whole bytes)
+
+    start : sectorStart (gate * 32) ≡ gate * 32
+    start = omega arith
+
+    long : length (sectorOf gate ys) ≡ 32
+    long = length-take-le 32 (drop (gate * 32) ys) (simp length-drop (omega (arith, length-stored xs (gate * 32) (whole bytes))))
+
+-- For every record that is not refused, and every chip that the events are for
+module _ (gate : ℕ) (bytes : List ℕ) (select room : ℕ) (taken : sendRefusal gate bytes select room ≡ 0) (byte-wide : Bytes bytes) (w : World) (ready : Ready select w) where
+  -- what was given
+  given : Sendable gate bytes select room
+  given = send-taken gate bytes select room taken
+
+  -- what the events leave, and what a trace of them answers
+  abbrev left : World
+  left = after (sentEvents select gate bytes) w
+
+  abbrev answers : List ℕ
+  answers = answersOf (sentEvents select gate bytes) w
+
+  -- the chip and the array that they leave, by whether the sector is locked
+  abbrev last : Bool → World
+  last shut = world (ended gate (w .chip)) (arrayThen (w .array) (gate * 32) bytes shut)
+
+  -- the run from that chip
+  runs : (shut : Bool) → shutAt gate (w .chip) ≡ shut
+      → Plays w (map eventOf (sentEvents select gate bytes)) (heardAll select gate bytes) (toldAll select gate bytes (cond shut 4 1)) (last shut)
+  runs shut e =
+      subst₂ (λ (v : World) (s : ℕ). Plays v (map eventOf (sentEvents s gate bytes)) (heardAll s gate bytes) (toldAll s gate bytes (cond shut 4 1)) (last shut))
+      (ready-rests select w ready) (ready .selected)
+      (rw (events-are (w .chip .select) gate bytes)
+      (run gate bytes (given .gate-in) (given .sized) byte-wide (w .chip) (w .array) (w .chip .scl) (w .chip .line) shut (rw (ready .selected) (given .select-in)) (ready .rpel) e))
+
+  -- chip and array
+  leaves : (shut : Bool) → shutAt gate (w .chip) ≡ shut → left ≡ last shut
+  unfolding after
+  leaves shut e = runs shut e .ends
+
+  -- the chip, the notes and the acknowledges
+  ends : (shut : Bool) → shutAt gate (w .chip) ≡ shut → Ends (cond shut 4 1) gate w left answers
+  ends shut e =
+      let heard : map answerLine answers ≡ heardAll select gate bytes = lines-answered (sentEvents select gate bytes) w ∙ runs shut e .hears in
+      record {
+        chip = ap (λ (v : World). v .chip) (leaves shut e);
+        notes = notes-answered (sentEvents select gate bytes) w ∙ runs shut e .tells ∙ notes-come select gate bytes (cond shut 4 1) (given .sized);
+        setting = λ k h. subst (AckAt (2 + 18 * k)) (sym heard) (acks-set select gate bytes k h);
+        writing = λ k h. subst (AckAt (79 + 18 * k)) (sym heard) (acks-written select gate bytes (given .sized) k h);
+      }
+
+  -- Run as a trace, which is not refused where the chip is in range: this is what it leaves and answers
+  pub sent-run : chipFits (w .chip) ≡ true → (old : List ℕ) → 713 ≤ length old
+      → (ranOf (w .chip) (w .array) (sentEvents select gate bytes) old .refusal ≡ 0)
+      × ((world (ranOf (w .chip) (w .array) (sentEvents select gate bytes) old .chip) (runArray (w .chip) (w .array) (sentEvents select gate bytes) old) ≡ left)
+      × (runAnswers (w .chip) (w .array) (sentEvents select gate bytes) old ≡ answers ++ drop 713 old))
+  sent-run fits old room =
+      let sized : length (sentEvents select gate bytes) ≡ 713 = sent-length select gate bytes (given .sized) in
+      let accepted : refusal (w .chip) (w .array) ≡ 0 = taken-so (w .chip) (w .array) (ready .whole) fits in
+      let few : length (sentEvents select gate bytes) ≤ 65536 = omega arith in
+      let enough : length (sentEvents select gate bytes) ≤ length old = omega arith in
+      let all : allEvents (sentEvents select gate bytes) ≡ true = sent-events select gate bytes (given .sized) in (
+        run-taken (w .chip) (w .array) (sentEvents select gate bytes) old accepted few enough all,
+        (
+          run-whole (w .chip) (w .array) (sentEvents select gate bytes) old accepted few enough all,
+          run-answers (w .chip) (w .array) (sentEvents select gate bytes) old accepted few enough all ∙ ap (λ (n : ℕ). answers ++ drop n old) sized,
+        ),
+      )
+
+  -- The chip is ready for the next record
+  pub sent-again : Ready select left
+  sent-again = by-test (shutAt gate (w .chip)) refl
+    where
+      again : (ys : List ℕ) → length ys ≡ 16384 → left ≡ world (ended gate (w .chip)) ys → Ready select left
+      again ys whole e =
+          subst (Ready select) (sym e)
+          (record { selected = ready .selected; idle = refl; standby = refl; rpel = ready .rpel; load = refl; whole = whole })
+
+      by-test : (shut : Bool) → shutAt gate (w .chip) ≡ shut → Ready select left
+      by-test true e = again (w .array) (ready .whole) (leaves true e)
+      by-test false e = again (last false .array) (length-stored (w .array) (gate * 32) (whole bytes) ∙ ready .whole) (leaves false e)
+
+  -- A locked sector stays, and so does every other byte, with note 4
+  pub sent-locked : shutAt gate (w .chip) ≡ true → Ends 4 gate w left answers × (left .array ≡ w .array)
+  sent-locked e = (ends true e, ap (λ (v : World). v .array) (leaves true e))
+
+  module _ (unlocked : shutAt gate (w .chip) ≡ false) where
+    -- the array that is left
+    stands : Wrote gate bytes (w .array) (last false .array)
+    stands = wrote gate bytes (w .array) (given .gate-in) (given .sized) (ready .whole)
+
+    -- An unlocked sector then holds the record and every other byte is kept, with note 1
+    pub sent-stored : Ends 1 gate w left answers × Wrote gate bytes (w .array) (left .array)
+    sent-stored = (ends false unlocked, subst (λ (v : World). Wrote gate bytes (w .array) (v .array)) (sym (leaves false unlocked)) stands)
+
+    -- From the record read before to the record read after: reading the sector gives what the record says
+    pub sent-read : readOf (sectorOf gate (left .array)) ≡ readOf bytes
+    sent-read = ap readOf (sent-stored .1 .sector)
+
+    -- a random read at the chip's select returns the sector's bytes
+    returned : (pins : ℕ → Bool) → Returns 32 (drop 2 (heardOf pins (begin ++ randomRead select (gate * 32) 32) (last false))) (held (last false .array) (gate * 32) 32)
+    returned pins =
+        let c : Chip = w .chip in
+        let gate-in : gate ≤ 511 = given .gate-in in
+        subst (λ (s : ℕ). Returns 32 (drop 2 (heardOf pins (begin ++ randomRead s (gate * 32) 32) (last false))) (held (last false .array) (gate * 32) 32)) (ready .selected)
+        (rested-read (ended gate c) (last false .array) (gate * 32) false true true (rw (ready .selected) (given .select-in)) (gate * 32) 32 (omega arith) pins)
+
+    -- and so the record, whatever the pin
+    pub sent-read-back : (pins : ℕ → Bool) → readBack pins select gate left ≡ bytes
+    sent-read-back pins =
+        let gate-in : gate ≤ 511 = given .gate-in in
+        let same : held (last false .array) (gate * 32) 32 ≡ bytes = held-part (last false .array) 32 (gate * 32) (stands .sized ∙ ready .whole) (omega arith) ∙ stands .sector in
+        rw (leaves false unlocked) (read-bytes 32 _ bytes (rw same at (returned pins)) byte-wide)

@@ -1,0 +1,73 @@
+-- What the sender's events do to a chip, part by part: the chips that they are for, how such a chip ends, what it answers on the way, and what its
+-- array holds then. (RULES A6-A9, D5.)
+--
+-- | Name | Meaning |
+-- |---|---|
+-- | `Ready select w` | a chip that the events are for |
+-- | `shutAt gate c` | the gate's sector is locked |
+-- | `ended gate c` | the chip afterwards |
+-- | `notesWith note` | the notes of the 713 events, this one at the last STOP |
+-- | `Ends note` | how the events end: the chip, and the notes and acknowledges in their answers |
+-- | `sectorOf gate xs` | the 32 bytes of the gate's sector |
+-- | `Wrote` | the sector holds the record, and every other byte is kept |
+-- | `readBack pins select gate w` | the 32 bytes that a random read of the sector gives |
+use Prim.Native.Nat.{ℕ, _+_, _*_, _<_}
+use mathlib.Core.Bool.{Bool, true, false}
+use mathlib.Core.List.{List, [], _∷_, _++_, map}
+use mathlib.Core.Path.{_≡_}
+use lib.ListN.{length, getD, take, drop, replicate}
+use Rattle.parts.specs.Load.{noLoad}
+use Rattle.parts.specs.Locks.{locked}
+use Rattle.parts.specs.Register.{withPel}
+use Rattle.parts.specs.Sector.{sectorStart}
+use Rattle.parts.specs.declared.phase.Phase.the-variants.{Standby}
+use Rattle.chip.specs.Chip.{withTransfer, withCycle, withLevels}
+use Rattle.chip.specs.Run.{World}
+use Rattle.chip.specs.declared.chip.Chip.{Chip}
+use Rattle.trace.specs.Bytes.{answerLine, answerNote}
+use Rattle.messages.specs.Messages.{begin}
+use Rattle.messages.specs.RandomRead.{AckAt, randomRead, bytesRead}
+use Rattle.messages.specs.Wires.{heardOf}
+
+-- A6: idle in standby with RPEL 0, as after a power-up, at the same select, over a whole array (reading: with no load). PEL, PPEN, BL, the
+-- counter, the mark and the last levels may be any
+pub record Ready (select : ℕ) (w : World) : Type 0 where
+  pub selected : w .chip .select ≡ select
+  pub idle : w .chip .busy ≡ false
+  pub standby : w .chip .phase ≡ Standby
+  pub rpel : w .chip .register .rpel ≡ false
+  pub load : w .chip .load ≡ noLoad
+  pub whole : length (w .array) ≡ 16384
+
+-- A7, A8: asked with the pin low
+abbrev pub shutAt : ℕ → Chip → Bool
+shutAt gate c = locked (c .part) (c .register .bl) false (gate * 32)
+
+-- A9: idle in standby with PEL set, part, select, PPEN, BL and RPEL as they were; the counter stands at the sector's start
+abbrev pub ended : ℕ → Chip → Chip
+ended gate c = withLevels (withTransfer (withCycle c (withPel (c .register) true) false) Standby (gate * 32) false noLoad) true true
+
+-- A9: 3 at event 76, where PEL is set, this note at event 711, 0 at all others
+abbrev pub notesWith : ℕ → List ℕ
+notesWith note = replicate 76 0 ++ (3 ∷ []) ++ replicate 634 0 ++ (note ∷ 0 ∷ [])
+
+-- A9: how the chip ends, the notes, and an acknowledge for each of the 4 and 35 bytes that are sent, the first of which begin at events 2 and 79
+pub record Ends (note gate : ℕ) (w w′ : World) (answers : List ℕ) : Type 0 where
+  pub chip : w′ .chip ≡ ended gate (w .chip)
+  pub notes : map answerNote answers ≡ notesWith note
+  pub setting : (k : ℕ) → k < 4 → AckAt (2 + 18 * k) (map answerLine answers)
+  pub writing : (k : ℕ) → k < 35 → AckAt (79 + 18 * k) (map answerLine answers)
+
+-- G1: the record of gate k lies in sector k
+abbrev pub sectorOf : ℕ → List ℕ → List ℕ
+sectorOf gate xs = take 32 (drop (gate * 32) xs)
+
+-- A7: that sector then holds the record and every other byte is kept
+pub record Wrote (gate : ℕ) (bytes xs ys : List ℕ) : Type 0 where
+  pub sized : length ys ≡ length xs
+  pub sector : sectorOf gate ys ≡ bytes
+  pub others : (a : ℕ) → (sectorStart a ≡ gate * 32 → ⊥) → getD ys a 0 ≡ getD xs a 0
+
+-- W8: a START, then the read; what is heard of the START's two events is no part of it
+abbrev pub readBack : (ℕ → Bool) → ℕ → ℕ → World → List ℕ
+readBack pins select gate w = bytesRead 32 (drop 2 (heardOf pins (begin ++ randomRead select (gate * 32) 32) w))

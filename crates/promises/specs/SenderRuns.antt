@@ -1,0 +1,48 @@
+-- Concrete runs of the sender: the record of worked case 4 for gate 17, chips that its events are for, and one with RPEL set, for which they are not.
+--
+-- | Name | Meaning |
+-- |---|---|
+-- | `northRecord`, `north17 select` | the record of worked case 4; its events as gate 17's |
+-- | `up part bl` | a chip at select 5 with PPEN set, just powered up, over an array of FFh |
+-- | `armed part` | a chip with PPEN 1, BL 3 and RPEL 1 |
+-- | `Unlocks` | the events take PPEN and BL away, and leave no record |
+use Prim.Native.Nat.{ℕ}
+use mathlib.Core.Bool.{true, false}
+use mathlib.Core.List.{List, [], _∷_, map}
+use mathlib.Core.Path.{_≡_}
+use lib.IntN.{pos}
+use lib.ListN.{take}
+use Rattle.parts.specs.Sector.{erased}
+use Rattle.chip.specs.Chip.{atPowerUp}
+use Rattle.chip.specs.Run.{World, world, notes}
+use Rattle.gate.specs.Writing.{writtenOf}
+use Rattle.trace.specs.Bytes.{eventOf}
+use Rattle.trace.specs.Trace.{after}
+use Rattle.messages.specs.Messages.{registerWrite}
+use Rattle.sender.specs.Sending.{sentEvents}
+use Rattle.promises.specs.Cases.{buffer, north, sent, fresh, locking, loud}
+
+-- closed 0, open 1,200, "NORTH"
+abbrev pub northRecord : List ℕ
+northRecord = writtenOf buffer (pos 0) (pos 1200) north
+
+-- at this select
+abbrev pub north17 : ℕ → List ℕ
+north17 select = sentEvents select 17 northRecord
+
+-- as power-up leaves it
+abbrev pub up : ℕ → ℕ → World
+up part bl = world (atPowerUp part 5 true bl) erased
+
+-- run from power-up at select 0: 9Ah writes PPEN 1 and BL 3, and then 06h sets RPEL
+abbrev pub armed : ℕ → World
+armed part = sent (registerWrite 0 0x06) (locking 0x9a (fresh part))
+
+-- after the first message PPEN and BL are gone; its cycle makes the chip deaf to the second, so note 2 is the only one
+pub record Unlocks (w : World) : Type 0 where
+  pub rpel-before : w .chip .register .rpel ≡ true
+  pub ppen-before : w .chip .register .ppen ≡ true
+  pub bl-before : w .chip .register .bl ≡ 3
+  pub ppen-after : after (take 77 (north17 0)) w .chip .register .ppen ≡ false
+  pub bl-after : after (take 77 (north17 0)) w .chip .register .bl ≡ 0
+  pub told : loud (notes (map eventOf (north17 0)) w) ≡ 2 ∷ []

@@ -1,0 +1,221 @@
+/* Compares the sender: the events that it writes, what they do to a chip, and what the request says they do. */
+#include <stdio.h>
+#include <string.h>
+
+#include "compare.h"
+#include "kit.h"
+#include "show.h"
+#include "stir.h"
+#include "tally.h"
+
+#define ROOM 64                         /* longest record lent */
+#define LONGEST (CREP_SEND + 64)        /* longest buffer lent for the events */
+#define MARGIN 16                       /* bytes past it that must stay */
+
+/* The last event of the first message, of the second, and the clocks that acknowledge: four bytes, then 35. */
+enum { FIRST_STOP = 76, SECOND_STOP = 711, FIRST_NINTH = 19, SECOND_NINTH = 96, BYTE = 18 };
+
+struct order {
+    uint8_t select;
+    uint16_t gate;
+    size_t record_len, trace_len;
+    uint8_t record[ROOM];
+};
+
+/* One side of the comparison: all that the call and the run of its events may change. */
+struct side {
+    const struct kit *kit;
+    uint8_t record[ROOM], trace[LONGEST + MARGIN];
+    uint16_t events;
+    struct crep_chip chip;
+    uint8_t array[CREP_ARRAY], answers[CREP_SEND];
+    uint8_t refusal;
+};
+
+static struct side library = { .kit = &kit_library };
+static struct side model = { .kit = &kit_model };
+
+/* ---- What is asked for ---- */
+
+/* Gates and selects that are good most times, at the edges of their range often. */
+static void stir_send(struct chance *chance, struct order *o)
+{
+    static const uint32_t gates[] = { 0, 1, 255, 256, 257, 383, 384, 510, 511, 511, 512, 513, 768, 1023, 65535 };
+    static const uint32_t selects[] = { 7, 8, 8, 9, 15, 16, 128, 255 };
+
+    o->gate = (uint16_t)chance_below(chance, 512);
+    if (chance_once_in(chance, 2))
+        o->gate = (uint16_t)chance_of(chance, gates, sizeof gates / sizeof gates[0]);
+    o->select = (uint8_t)chance_below(chance, 8);
+    if (chance_once_in(chance, 5))
+        o->select = (uint8_t)chance_of(chance, selects, sizeof selects / sizeof selects[0]);
+    o->record_len = stir_length(chance, CREP_RECORD, ROOM);
+    o->trace_len = stir_length(chance, CREP_SEND, LONGEST);
+    chance_fill(chance, o->record, ROOM);
+    stir_record(chance, o->record);
+}
+
+/* A chip that is idle in standby, as the request asks for it nine times in ten, or beside that. */
+static void standing_by(struct chance *chance, struct crep_chip *chip, uint8_t select)
+{
+    stir_chip(chance, chip);
+    chip->busy = 0;
+    chip->phase = CREP_PHASE_STANDBY;
+    chip->rpel = chance_once_in(chance, 20);
+    chip->line = !chance_once_in(chance, 20);
+    if (!chance_once_in(chance, 20))
+        chip->select = select;
+    if (!chance_once_in(chance, 20)) {
+        chip->count = 0;
+        memset(chip->places, 0, sizeof chip->places);
+        memset(chip->load, 0, sizeof chip->load);
+    }
+}
+
+/* ---- Reports ---- */
+
+static void show_order(const struct order *o)
+{
+    printf("    select %d, gate %d, record of %zu bytes, buffer of %zu\n", o->select, o->gate, o->record_len,
+           o->trace_len);
+    printf("    returned: library %d, model %d; events: library %d, model %d\n", library.refusal, model.refusal,
+           library.events, model.events);
+    show_bytes(stdout, o->record, ROOM);
+}
+
+static int differ_send(const struct order *o)
+{
+    tally_difference("crep_send");
+    show_order(o);
+    show_difference(stdout, "record", library.record, model.record, ROOM);
+    show_difference(stdout, "buffer", library.trace, model.trace, sizeof model.trace);
+    return 1;
+}
+
+static int differ_run(const char *what, const struct order *o, const struct crep_chip *before)
+{
+    static const char *const titles[3] = { "before", "library", "model" };
+    const struct crep_chip *chips[3];
+
+    chips[0] = before;
+    chips[1] = &library.chip;
+    chips[2] = &model.chip;
+    tally_difference(what);
+    show_order(o);
+    show_difference(stdout, "answers", library.answers, model.answers, CREP_SEND);
+    show_difference(stdout, "array", library.array, model.array, CREP_ARRAY);
+    show_chips(stdout, titles, chips, 3);
+    return 1;
+}
+
+/* ---- What the request says ---- */
+
+/* The chip for which it speaks. */
+static int as_asked(const struct order *o, const struct crep_chip *chip)
+{
+    int i, loaded = chip->count;
+
+    for (i = 0; i < 32; i++)
+        loaded += chip->places[i] + chip->load[i];
+    return chip->select == o->select && !chip->rpel && chip->line && !loaded;
+}
+
+/* Notes 3 and `last` at the ends of the two messages, 0 elsewhere; the line low in each of the 39 ninth clocks. */
+static int answered(const uint8_t *answers, int last)
+{
+    int i, low = 0;
+
+    for (i = 0; i < CREP_SEND; i++)
+        if (CREP_NOTE(answers[i]) != (i == FIRST_STOP ? CREP_NOTE_LATCH : i == SECOND_STOP ? last : CREP_NOTE_NONE))
+            return 0;
+    for (i = 0; i < 4; i++)
+        low += !CREP_LINE(answers[FIRST_NINTH + BYTE * i]);
+    for (i = 0; i < 35; i++)
+        low += !CREP_LINE(answers[SECOND_NINTH + BYTE * i]);
+    return low == 39;
+}
+
+/* Idle in standby with PEL 1 and the sector's address, both wires high; part, select, PPEN and BL as before. */
+static int left(const struct order *o, const struct crep_chip *before, const struct crep_chip *chip)
+{
+    struct crep_chip wanted;
+
+    memset(&wanted, 0, sizeof wanted);
+    wanted.part = before->part;
+    wanted.select = before->select;
+    wanted.ppen = before->ppen;
+    wanted.bl = before->bl;
+    wanted.pel = wanted.scl = wanted.line = 1;
+    wanted.counter_high = (uint8_t)(o->gate / 8);
+    wanted.counter_low = (uint8_t)(o->gate % 8 * 32);
+    return memcmp(chip, &wanted, sizeof wanted) == 0;
+}
+
+/* The library's side is looked at, so that a mistake which both share is found too; `array` is what was before. */
+static int promised(const struct order *o, const struct crep_chip *before, uint8_t *array)
+{
+    static const unsigned first_locked[4] = { 0x4000, 0x3000, 0x2000, 0x0000 };
+    unsigned address = o->gate * 32u;
+    int locked = address >= first_locked[before->bl];
+
+    if (!locked)
+        memcpy(array + address, o->record, CREP_RECORD);
+    tally.locked[locked]++;
+    return answered(library.answers, locked ? CREP_NOTE_LOCKED : CREP_NOTE_STORED)
+        && left(o, before, &library.chip) && memcmp(library.array, array, CREP_ARRAY) == 0;
+}
+
+/* ---- The call, then the run ---- */
+
+static void do_send(struct side *side, const struct order *o)
+{
+    memcpy(side->record, o->record, ROOM);
+    side->refusal = side->kit->send(o->select, o->gate, side->record, o->record_len, side->trace, o->trace_len,
+                                    &side->events);
+}
+
+static void do_run(struct side *side, const struct crep_chip *chip, const uint8_t *array)
+{
+    side->chip = *chip;
+    memcpy(side->array, array, CREP_ARRAY);
+    memset(side->answers, 0xee, sizeof side->answers);
+    side->refusal = side->kit->run(&side->chip, side->array, CREP_ARRAY, side->trace, side->events, side->answers,
+                                   sizeof side->answers);
+}
+
+static int compare_sent(struct chance *chance, const struct order *o)
+{
+    static uint8_t array[CREP_ARRAY];
+    struct crep_chip chip;
+
+    standing_by(chance, &chip, o->select);
+    stir_array(chance, array);
+    do_run(&library, &chip, array);
+    do_run(&model, &chip, array);
+    if (library.refusal != model.refusal || memcmp(&library.chip, &model.chip, sizeof chip) != 0
+        || memcmp(library.array, model.array, CREP_ARRAY) != 0
+        || memcmp(library.answers, model.answers, CREP_SEND) != 0)
+        return differ_run("crep_run on what crep_send wrote", o, &chip);
+    if (as_asked(o, &chip) && (library.refusal || !promised(o, &chip, array)))
+        return differ_run("what crep_send promises: both sides break it", o, &chip);
+    return 0;
+}
+
+int compare_send(struct chance *chance)
+{
+    struct order o;
+
+    stir_send(chance, &o);
+    chance_fill(chance, library.trace, sizeof library.trace);
+    memcpy(model.trace, library.trace, sizeof model.trace);
+    library.events = model.events = (uint16_t)chance_word(chance);
+    do_send(&library, &o);
+    do_send(&model, &o);
+    if (library.refusal != model.refusal || library.events != model.events
+        || memcmp(library.record, model.record, ROOM) != 0
+        || memcmp(library.trace, model.trace, sizeof model.trace) != 0)
+        return differ_send(&o);
+    tally.sends++;
+    tally.refusals[model.refusal]++;
+    return model.refusal ? 0 : compare_sent(chance, &o);
+}
