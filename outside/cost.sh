@@ -6,6 +6,7 @@ set -eu
 root=$1
 room=$2
 gate=$5
+machine=$(uname -m)
 before=$(git -C "$root" rev-parse --verify --quiet "$3^{commit}") || { echo "cost: BEFORE is no commit: '$3'"; exit 1; }
 after=$(git -C "$root" rev-parse --verify --quiet "$4^{commit}") || { echo "cost: AFTER is no commit: '$4'"; exit 1; }
 command -v valgrind > /dev/null || { echo "cost: valgrind not found: nothing was measured"; exit 1; }
@@ -42,6 +43,15 @@ if diff "$room/before.contracts" "$room/after.contracts"; then
     echo "none of the $(grep -c 'fn ' "$room/after.contracts")"
 fi
 
+# The functions of a library, each a line with its bytes of machine code and their checksum.
+code() {
+    (cd "$room" && rm -f ./*.o && ar x "$1")
+    readelf -SW "$room"/*.o | sed -n 's/^ *\[ *[0-9]*\] \.text\.\([^ ]*\) *PROGBITS *[0-9a-f]* \([0-9a-f]*\) \([0-9a-f]*\) .*/\1 \2 \3/p' |
+        while read -r name at size; do
+            echo "$name $((0x$size)) $(tail -c +$((0x$at + 1)) "$room"/*.o | head -c $((0x$size)) | cksum | cut -d ' ' -f 1)"
+        done | sort
+}
+
 # Twice in turn, and of each crate the lesser time: a machine is not as fast in every minute.
 for turn in 1 2; do
     for name in before after; do
@@ -53,7 +63,13 @@ for name in before after; do
     awk -F : '!($1 in least) { least[$1] = $2; order[++n] = $1 } $2 < least[$1] { least[$1] = $2 }
         END { for (i = 1; i <= n; i++) { print order[i] ":" least[order[i]]; all += least[order[i]] } print "all:" all }' \
         "$room/$name.seconds1" "$room/$name.seconds2" > "$room/$name.seconds"
-    make -s -C "$room/$name/outside" count > "$room/$name.count"
+    make -s -C "$room/$name" library > "$room/$name.build"
+    code "$room/$name/target/staticlib/libcrepulanter.a" > "$room/$name.code"
+    if [ "$machine" = x86_64 ]; then
+        make -s -C "$room/$name/outside" count > "$room/$name.count"
+    else
+        echo > "$room/$name.count"
+    fi
     sed -n 's/^\(crep_.*[^ ]\)  *\([0-9.]*\)$/\1:\2/p' "$room/$name.count" > "$room/$name.instructions"
     size -t "$room/$name/target/staticlib/libcrepulanter.a" | awk '/TOTALS/ { print "text and constants:" $1; print "data:" $2 + $3 }' > "$room/$name.bytes"
 done
@@ -66,9 +82,19 @@ beside seconds
 echo
 echo "## Instructions per event"
 echo
-echo "| Call, work | Before | After |"
-echo "|---|---|---|"
-beside instructions
+if [ "$machine" = x86_64 ]; then
+    echo "| Call, work | Before | After |"
+    echo "|---|---|---|"
+    beside instructions
+else
+    echo "not counted: the library runs on x86_64, and this machine is $machine"
+fi
+echo
+echo "## Functions of the library whose machine code differs: name, bytes, checksum"
+echo
+if diff "$room/before.code" "$room/after.code"; then
+    echo "none of the $(wc -l < "$room/after.code")"
+fi
 echo
 echo "## Bytes of the library"
 echo
