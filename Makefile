@@ -12,10 +12,18 @@ VERSION = $(shell sed -n 's/^\#define CREP_VERSION "\(.*\)"/\1/p' include/crepul
 # The folders too: their times tell of files that went.
 SOURCES = crates.txt $(shell find crates -name must-fail -prune -o \( -type d -o -name '*.rt' -o -name '*.antt' \) -print)
 
-.PHONY: library bench install
+.PHONY: library bench install other-machine
 
 library bench:
 	@:
+
+# Said once, where a link would fail with less to go by.
+ifneq ($(shell uname -m),x86_64)
+library: other-machine
+other-machine:
+	@echo "note: the library is for x86-64 Linux and this machine is $(shell uname -m): link with CC='x86_64-linux-gnu-gcc -static'" >&2
+	@echo "      and run under qemu-x86_64 (Debian: gcc-x86-64-linux-gnu, qemu-user-static)" >&2
+endif
 
 # What rt says is shown only where it fails.
 define prove
