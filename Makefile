@@ -17,7 +17,7 @@ SOURCES = crates.txt $(shell find crates -name must-fail -prune -o \( -type d -o
 library bench:
 	@:
 
-# Said once, where a link would fail with less to go by.
+# On another machine a link with the library fails, and says less.
 ifneq ($(shell uname -m),x86_64)
 library: other-machine
 other-machine:
