@@ -1,22 +1,23 @@
 -- Which of its texts a report is, by what running the trace answers; and how long a report can be. Assumes nothing.
-use Prim.Native.Nat.{ℕ, suc, _+_, _≤_, _<_, _%_, _*_}
+use Prim.Native.Nat.{ℕ, suc, _+_, _≤_, _<_}
 use mathlib.Core.Bool.{Bool, true, false, cond}
 use mathlib.Core.Path.{_≡_, refl, sym, ap, ap₂, _∙_}
 use mathlib.Core.List.{List, [], _∷_, _++_}
 use native.Mathlib.Omega.{arith}
 use borrow.Author.Tests.{le-leb, lt-leb, leb-true, ne-eqb}
 use lib.Dec.{eqb, leb}
-use lib.ListN.{length, take, drop, length-append, length-take}
+use lib.ListN.{length, take, drop, length-append, length-replicate, length-take}
 use lib.Seq.{take-at}
 use Rattle.parts.specs.Sector.{erased}
+use Rattle.chip.specs.Chip.{chipFits}
 use Rattle.chip.specs.Run.{World, world, step}
 use Rattle.chip.specs.declared.chip.Chip.{Chip}
-use Rattle.parts.specs.Phase.{weight}
-use Rattle.trace.specs.Bytes.{eventOf, answerByte}
+use Rattle.chip.proofs.EventLaws.{taken-so}
+use Rattle.trace.specs.Bytes.{eventOf, allEvents}
 use Rattle.trace.specs.Trace.{answersOf, runRefusal, runAnswers, ranOf, unless}
 use Rattle.trace.specs.declared.Ran.{Ran}
 use Rattle.report.specs.Report.{answerText, reportOf}
-use Rattle.report.specs.Text.{put, numeral, noteIn, heading, eventsWord, linesFrom, countText, refusedText}
+use Rattle.report.specs.Text.{put, numeral, heading, eventsWord, linesFrom, countText, refusedText}
 use Rattle.report.proofs.TextLaws.{put-append, put-start, numeral-short, lines-short, refused-length}
 
 -- heading, lines and count by their parts
@@ -90,6 +91,26 @@ pub report-long : (c : Chip) (bytes : List ℕ) → 4096 < length bytes → refu
 unfolding reportOf
 report-long c bytes many = simp (lt-leb _ _ many)
 
+-- the texts of a chip in range, by the two tests that are left
+ranged-by :
+    (few events : Bool) (number : ℕ) (a : List ℕ)
+    → (few ≡ true → number ≡ cond events 0 6)
+    → cond few (cond (eqb number 0) a (refusedText number)) (refusedText 4) ≡ cond few (cond events a (refusedText 6)) (refusedText 4)
+ranged-by true true number a h = rw (h refl) refl
+ranged-by true false number a h = rw (h refl) refl
+ranged-by false events number a h = refl
+
+-- so for chips of either part: over 4,096 events are refused with 4, then a byte that is no event with 6, and nothing else is refused
+pub report-ranged :
+    (c : Chip) (bytes : List ℕ)
+    → chipFits c ≡ true
+    → reportOf c bytes
+    ≡ cond (leb (length bytes) 4096) (cond (allEvents bytes) (answerText (answersOf bytes (world c erased))) (refusedText 6)) (refusedText 4)
+unfolding reportOf runRefusal
+report-ranged c bytes fits =
+    ranged-by (leb (length bytes) 4096) (allEvents bytes) (runRefusal c erased bytes 4096) (answerText (answersOf bytes (world c erased)))
+    (λ few. rw (taken-so c erased (length-replicate {A = ℕ} 0x4000 0xff) fits, le-leb (length bytes) 65536 (omega (arith, leb-true (length bytes) 4096 few)), few) refl)
+
 -- what `write_report` says of its answer and the page
 abbrev pub Reported : Chip → List ℕ → List ℕ → ℕ → List ℕ → Type 0
 Reported c bytes page r after =
@@ -145,11 +166,3 @@ module _ (c : Chip) (bytes old page : List ℕ) {xs : List ℕ} {answered : Ran}
       let some : runRefusal c erased bytes 4096 ≡ 0 → ⊥ = λ z. left (number ∙ z) in
       let fits : length (refusedText (answered .refusal)) ≤ length page = omega (arith, refused-room (answered .refusal)) in
       reported c bytes (refusedText (answered .refusal)) page (simp (number, ne-eqb _ _ some, le-leb _ _ few)) fits long at
-
--- the note that a line shows is the event's: what an answer byte keeps of it comes back
-note-by : (b : Bool) (k : ℕ) → k < 8 → noteIn (weight b 1 + k * 2) ≡ k
-note-by true k h = omega arith
-note-by false k h = omega arith
-
-pub note-in : (line : Bool) (note : ℕ) → noteIn (answerByte line note) ≡ note % 8
-note-in line note = note-by line (note % 8) (omega arith)

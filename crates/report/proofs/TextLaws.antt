@@ -1,5 +1,5 @@
 -- Text on a page, numerals by their width, and how long a line is. Assumes nothing.
-use Prim.Native.Nat.{ℕ, zero, suc, _+_, _*_, _/_, _%_, _≤_, _<_}
+use Prim.Native.Nat.{ℕ, zero, suc, _+_, _*_, _/_, _≤_, _<_}
 use mathlib.Core.Bool.{Bool, true, false, cond}
 use mathlib.Core.Path.{_≡_, refl, sym, ap, _∙_}
 use mathlib.Core.List.{List, [], _∷_, _++_}
@@ -7,9 +7,10 @@ use native.Mathlib.Numerals.{add-one}
 use native.Mathlib.Omega.{arith}
 use borrow.Author.Tests.{lt-ltb, le-ltb}
 use lib.Dec.{eqb, ltb}
-use lib.ListN.{length, take, drop, set, getD, length-append, length-set, drop-of-length-le}
+use lib.ListN.{length, drop, set, getD, length-append, drop-of-length-le}
 use lib.Seq.{sets, sets-eq, drop-cons}
-use Rattle.report.specs.Text.{put, glyph, digits, width, numeral, noteLine, noteIn, eventLine, linesFrom, refusedWord, refusedText}
+use Rattle.trace.specs.Bytes.{answerNote}
+use Rattle.report.specs.Text.{put, glyph, digits, width, numeral, noteLine, eventLine, linesFrom, refusedWord, refusedText}
 
 -- one text after the other is their sum
 pub put-append : (page : List ℕ) (at : ℕ) (s t : List ℕ) → put page at (s ++ t) ≡ put (put page at s) (at + length s) t
@@ -113,7 +114,7 @@ event-by false s h = h
 
 pub event-short : (position answer : ℕ) → length (eventLine position answer) ≤ 7
 unfolding eventLine
-event-short position answer = event-by (eqb (noteIn answer) 0) (noteLine position (noteIn answer)) (line-short position (noteIn answer) (omega arith))
+event-short position answer = event-by (eqb (answerNote answer) 0) (noteLine position (answerNote answer)) (line-short position (answerNote answer) (omega arith))
 
 pub lines-short : (position : ℕ) (answers : List ℕ) → length (linesFrom position answers) ≤ 7 * length answers
 unfolding linesFrom

@@ -7,17 +7,17 @@
 -- | `digits k n` | the last k decimal digits of a number, the most significant first |
 -- | `width`, `numeral` | how many digits a number below 10,000 takes; its decimal numeral |
 -- | `noteLine` | position and note, one space between them |
--- | `noteIn` | the note that an answer byte holds |
 -- | `eventLine` | the line of an event, none where the note is 0 |
 -- | `linesFrom` | the lines of a row of answers, the first at this position |
 -- | `heading` | the first line |
 -- | `eventsWord`, `countText` | the word after the count; the last line |
 -- | `refusedWord`, `refusedText` | the word before a number; the line of a refusal |
-use Prim.Native.Nat.{ℕ, zero, suc, _+_, _*_, _/_, _%_}
+use Prim.Native.Nat.{ℕ, zero, suc, _+_, _/_, _%_}
 use mathlib.Core.Bool.{cond}
 use mathlib.Core.List.{List, [], _∷_, _++_}
 use lib.Dec.{eqb, ltb}
 use lib.ListN.{set}
+use Rattle.trace.specs.Bytes.{answerNote}
 
 -- one byte after the other
 unfoldable pub put : List ℕ → ℕ → List ℕ → List ℕ
@@ -45,13 +45,9 @@ numeral n = digits (width n) n
 unfoldable pub noteLine : ℕ → ℕ → List ℕ
 noteLine position note = numeral position ++ (0x20 ∷ (numeral note ++ (0x0a ∷ [])))
 
--- B3: bits 1-3 of an answer byte
-abbrev pub noteIn : ℕ → ℕ
-noteIn answer = answer / 2 % 8
-
 -- P4: a line per event with a nonzero note
 unfoldable pub eventLine : ℕ → ℕ → List ℕ
-eventLine position answer = cond (eqb (noteIn answer) 0) [] (noteLine position (noteIn answer))
+eventLine position answer = cond (eqb (answerNote answer) 0) [] (noteLine position (answerNote answer))
 
 -- P4: position from 0
 unfoldable pub linesFrom : ℕ → List ℕ → List ℕ
