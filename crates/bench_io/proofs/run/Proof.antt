@@ -10,8 +10,8 @@ use lib.Seq.{take-at}
 use Rattle.chip.specs.declared.chip.Chip.{Chip}
 use Rattle.io.specs.Counts.{Counts}
 use Rattle.report.specs.Report.{reportOf}
-use Rattle.bench.proofs.main.Statement.{statement}
-use Rattle.bench.proofs.main.Tie as tie
+use Rattle.bench_io.proofs.run.Statement.{statement}
+use Rattle.bench_io.proofs.run.Tie as tie
 
 -- the length of a report counts on a page that begins with it
 counted :
@@ -30,12 +30,11 @@ array-share-prefix-page c = counted _ _ _ (c .write-report .ensures .0) (c .writ
 slice-aggregate-write-all : tie.Need-slice-aggregate-write-all
 slice-aggregate-write-all c = counted _ _ _ (c .before .write-report .ensures .0) (c .before .write-report .ensures .1) .1
 
-pub main-spec : {M : Type 1} → statement M
-main-spec =
+pub run-spec : {M : Type 1} → statement M
+run-spec =
     tie.close
     (tie.spec
     (λ c. search needs)
-    (λ c κs. search needs)
     (λ c κs. search needs)
     (λ c. search needs)
     (λ c. search needs)
