@@ -1,5 +1,5 @@
 # make             the library, target/staticlib/libcrepulanter.a: proved again only where a source has changed
-# make bench       the bench program, target/bin/bench, likewise
+# make bench       the bench programs, target/bin/bench (X24F128) and target/bin/bench_x24128, likewise
 # make install     header, library, pkg-config and CMake files under PREFIX (/usr/local)
 #
 # LIB=FILE takes a library that is built already. The gate is .ci/run; examples/ and outside/ have targets of their own.
@@ -7,6 +7,7 @@
 PREFIX = /usr/local
 LIB = target/staticlib/libcrepulanter.a
 BENCH = target/bin/bench
+BENCH_X24128 = target/bin/bench_x24128
 VERSION = $(shell sed -n 's/^\#define CREP_VERSION "\(.*\)"/\1/p' include/crepulanter.h)
 
 # The folders too: their times tell of files that went.
@@ -34,17 +35,18 @@ define prove
 endef
 
 # What is named on the command line is taken as it stands.
-ifneq ($(origin LIB),command line)
-library: $(LIB)
-$(LIB): $(SOURCES)
-	$(call prove,staticlib crepulanter)
-endif
+built = $(if $(filter command,$(origin $(1))),,$($(1)))
+library: $(call built,LIB)
+bench: $(call built,BENCH) $(call built,BENCH_X24128)
 
-ifneq ($(origin BENCH),command line)
-bench: $(BENCH)
-$(BENCH): $(SOURCES)
-	$(call prove,check bench)
-endif
+target/staticlib/libcrepulanter.a: $(SOURCES)
+	$(call prove,staticlib crepulanter)
+
+target/bin/%: $(SOURCES)
+	$(call prove,check $*)
+
+# One rt at a time in target/.
+.NOTPARALLEL:
 
 install: library
 	install -d $(DESTDIR)$(PREFIX)/include $(DESTDIR)$(PREFIX)/lib/pkgconfig $(DESTDIR)$(PREFIX)/lib/cmake/crepulanter

@@ -2,7 +2,7 @@
  * A board for host tests: one memory chip with its array behind the pins that a driver writes and reads. On a panel a
  * file of the same name gives the driver board_wires (or board_scl and board_sda) and board_line over port pins.
  *
- *     board_new(CREP_X24128, 2);                  a chip as it comes from the drawer, both wires high
+ *     board_new(CREP_X24F128, 2);                 a chip as it comes from the drawer, both wires high
  *     board.polls = 3;                            its cycles last three polls
  *     .. your driver writes and waits ..
  *     if (board_note() != CREP_NOTE_STORED) ..    what the chip did

@@ -11,7 +11,7 @@
  *     static uint8_t array[CREP_ARRAY];              // what the chip holds; yours to fill and to look at
  *     struct crep_chip chip;
  *     uint8_t answer, refusal;
- *     refusal = crep_new(&chip, CREP_X24128, 0);     // an X24128 with select 0, just powered up
+ *     refusal = crep_new(&chip, CREP_X24F128, 0);    // an X24F128 with select 0, just powered up
  *     if (refusal == 0)                              // both wires high
  *         refusal = crep_event(&chip, array, sizeof array, CREP_SCL | CREP_SDA, &answer);
  *     if (refusal == 0)                              // data falls: a START
@@ -60,8 +60,8 @@
 extern "C" {
 #endif
 
-#define CREP_VERSION "0.3.0"
-#define CREP_VERSION_NUMBER 300         /* the same for #if: 10000 * first + 100 * second + third */
+#define CREP_VERSION "0.4.0"
+#define CREP_VERSION_NUMBER 400         /* the same for #if: 10000 * first + 100 * second + third */
 
 /* Before a call whose result must not be dropped: the compiler warns where it is. */
 #if defined(__GNUC__)
@@ -84,8 +84,8 @@ extern "C" {
 
 /* ---- Parts, events, answers ---- */
 
-#define CREP_X24128 0
-#define CREP_X24F128 1
+#define CREP_X24128 0           /* stores a load of any length */
+#define CREP_X24F128 1          /* stores 32 bytes or none; the part of the standard chip */
 
 #define CREP_SCL 1              /* in a sample: the clock is high */
 #define CREP_SDA 2              /* in a sample: the master lets the data wire go */
@@ -118,7 +118,7 @@ extern "C" {
  *     crep_send           7 12 13 14 15 16 17
  *
  * A refused call runs nothing and changes neither the chip, nor the array, nor any buffer. What it does write:
- *     crep_new          the standard chip (X24128, select 0) into *chip
+ *     crep_new          the standard chip (X24F128, select 0) into *chip
  *     crep_event        1 into *answer (line high, note 0)
  *     crep_recover      0 into *pulses
  *     crep_record_read  0 into each of its five numbers
@@ -192,7 +192,7 @@ struct crep_chip {
 
 /*
  * Makes a new chip: PPEN 0, BL 0, just powered up (standby, last SCL low, last line high).
- * Refuses with 3, and then makes the standard chip.
+ * Refuses with 3, and then makes the standard chip, an X24F128 with select 0 whatever was asked for.
  */
 CREP_CHECKED uint8_t crep_new(struct crep_chip *chip, uint8_t part, uint8_t select);
 

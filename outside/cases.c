@@ -233,20 +233,32 @@ static int case_12(const struct kit *kit)
     return pulses_in_acknowledge(kit, 1) == 9;
 }
 
-/* 13. 9, the message that sets PEL: 78 events, note 3 at 77 and no other. */
+/* 13. 9, the message that sets PEL: 78 events, note 3 at 77 and no other, on either part. */
 static int case_13(const struct kit *kit)
 {
-    size_t i;
+    uint8_t part;
+    int i, good = 1;
 
-    open_bench(kit, 0);
-    wire_event(&bench.wire, 9);
-    wire_register(&bench.wire, 0, 0x02);
-    if (bench.wire.len != 78 || last_note() != 3)
-        return 0;
-    for (i = 0; i < 77; i++)
-        if (CREP_NOTE(bench.answers[i]) != 0)
-            return 0;
-    return bench.chip.pel == 1;
+    for (part = 0; part < 2; part++) {
+        open_bench(kit, part);
+        wire_event(&bench.wire, 9);
+        wire_register(&bench.wire, 0, 0x02);
+        good = good && bench.wire.len == 78 && last_note() == 3 && bench.chip.pel == 1;
+        for (i = 0; i < 77; i++)
+            good = good && CREP_NOTE(bench.answers[i]) == 0;
+    }
+    return good;
+}
+
+/* Refusal 3, for the part or for the select, leaves a new X24F128 with select 0. */
+static int standard_chip(const struct kit *kit)
+{
+    struct crep_chip standard, chip;
+
+    return kit->make(&standard, CREP_X24F128, 0) == 0 && standard.part == 1 && standard.select == 0
+        && kit->make(&chip, 2, 0) == 3 && memcmp(&chip, &standard, sizeof chip) == 0
+        && kit->make(&chip, CREP_X24128, 8) == 3 && memcmp(&chip, &standard, sizeof chip) == 0
+        && kit->make(&chip, 255, 255) == 3 && memcmp(&chip, &standard, sizeof chip) == 0;
 }
 
 /* A STOP with no bit received writes nothing; with exactly one it ends the write. */
@@ -521,7 +533,8 @@ static const struct {
     { "10  read at 3FFFh, then 0000h", case_10 },
     { "11  stopped with SCL low: 10 pulses", case_11 },
     { "12  stopped with SCL high: 9 pulses", case_12 },
-    { "13  the message that sets PEL, note 3 at 77", case_13 },
+    { "13  PEL set: note 3 at 77 on both parts", case_13 },
+    { "-   the standard chip: an X24F128 with select 0", standard_chip },
     { "-   a STOP needs exactly one bit", stop_needs_one_bit },
     { "-   the pin is read at the STOP", pin_is_read_at_the_stop },
     { "-   new limits keep the label", limits_keep_the_label },

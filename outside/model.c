@@ -440,18 +440,16 @@ static uint8_t one_event(struct crep_chip *c, uint8_t *array, uint8_t event)
 
 /* ---- The entries ---- */
 
-/* A new chip has PPEN 0 and BL 0 and is at power-up; the standard chip is the X24128 with select 0. */
+/* A new chip has PPEN 0 and BL 0 and is at power-up; refused, it is the standard one, an X24F128 with select 0. */
 uint8_t model_new(struct crep_chip *chip, uint8_t part, uint8_t select)
 {
     int refused = part > 1 || select > 7;
 
     memset(chip, 0, sizeof *chip);
     power_up(chip);
-    if (refused)
-        return 3;
-    chip->part = part;
-    chip->select = select;
-    return 0;
+    chip->part = refused ? CREP_X24F128 : part;
+    chip->select = refused ? 0 : select;
+    return refused ? 3 : 0;
 }
 
 uint8_t model_step(struct crep_chip *chip, uint8_t *array, uint8_t event)

@@ -379,7 +379,7 @@ int main(void)
 
     memset(array, 0xff, sizeof array);
     memset(tape, 3, sizeof tape);
-    model_new(&chip, 0, 0);
+    model_new(&chip, CREP_X24F128, 0);          /* the standard chip */
     while ((c = getchar()) != EOF) {
         int blanks = !comment && !text && (c == ' ' || c == '\n');
 

@@ -1,4 +1,4 @@
-// The bench: what the standard chip notes of the events on standard input.
+// The bench: what the standard chip, an X24F128, notes of the events on standard input.
 use chip::chip::Chip;
 
 fn main() {

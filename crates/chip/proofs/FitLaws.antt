@@ -8,7 +8,7 @@ use lib.Dec.{leb}
 use Rattle.parts.specs.Phase.{phaseFits}
 use Rattle.parts.specs.declared.phase.Phase.{Phase}
 use Rattle.parts.proofs.CondLaws.{cond-by, and-left, and-right}
-use Rattle.chip.specs.Chip.{chipFits, powerUp, newChip, standardChip, atPowerUp, made}
+use Rattle.chip.specs.Chip.{chipFits, powerUp, newChip, atPowerUp, made}
 use Rattle.chip.specs.declared.chip.Made.{Made}
 use Rattle.chip.specs.declared.chip.Chip.{Chip}
 
@@ -70,12 +70,9 @@ power-fits c f = up-fits (c .part) (c .select) (c .register .ppen) (c .register 
 pub made-fits : (part select : ℕ) → chipFits (made part select .chip) ≡ true
 unfolding made
 made-fits part select =
-    cond-by Fit (leb part 1) _ _
-    (λ p. cond-by Fit (leb select 7) _ _ (λ s. new-fits part select (leb-true part 1 p) (leb-true select 7 s)) (λ s. standard))
-    (λ p. standard)
+    cond-by Fit (leb part 1 && leb select 7) _ _
+    (λ b. new-fits part select (leb-true part 1 (and-left (leb part 1) _ b)) (leb-true select 7 (and-right (leb part 1) _ b)))
+    (λ b. new-fits 1 0 (omega arith) (omega arith))
   where
     Fit : Made → Type 0
     Fit m = chipFits (m .chip) ≡ true
-
-    standard : chipFits standardChip ≡ true
-    standard = new-fits 0 0 (omega arith) (omega arith)

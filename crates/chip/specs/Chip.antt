@@ -109,12 +109,11 @@ powerUp c = atPowerUp (c .part) (c .select) (c .register .ppen) (c .register .bl
 abbrev pub newChip : ℕ → ℕ → Chip
 newChip part select = atPowerUp part select false 0
 
--- C14: an X24128, select 0
+-- C14: an X24F128, select 0
 abbrev pub standardChip : Chip
-standardChip = newChip 0 0
+standardChip = newChip 1 0
 
 -- F3, O1: for a part above 1 or a select above 7 refusal 3, with the standard chip
 unfoldable pub made : ℕ → ℕ → Made
 made part select =
-    cond (leb part 1) (cond (leb select 7) (record { refusal = 0; chip = newChip part select }) (record { refusal = 3; chip = standardChip }))
-    (record { refusal = 3; chip = standardChip })
+    cond (leb part 1 && leb select 7) (record { refusal = 0; chip = newChip part select }) (record { refusal = 3; chip = standardChip })

@@ -9,7 +9,7 @@ use parts::register::Register;
 use parts::register::Written;
 
 pub struct Chip {
-    // 0 X24128, 1 X24F128
+    // Chip::X24128 or Chip::X24F128
     pub part: u8,
     // 0-7
     pub select: u8,
@@ -51,6 +51,12 @@ pub enum Effect {
 }
 
 impl Chip {
+    // the part that stores a load of any length
+    pub const X24128: u8 = 0;
+
+    // the part that stores 32 bytes or none
+    pub const X24F128: u8 = 1;
+
     // bytes of the array
     pub const BYTES: usize = 0x4000;
 
@@ -84,33 +90,34 @@ impl Chip {
         }
     }
 
-    // The standard chip: an X24128 with select 0.
+    // The standard chip: an X24F128 with select 0.
     pub fn standard() -> Chip
         ensures { λ r. ⌜ r ≡ standardChip ⌝ }
     {
-        Chip::at_power_up(0, 0, false, 0)
+        Chip::at_power_up(Chip::X24F128, 0, false, 0)
+    }
+
+    // What is answered for a part or a select that does not exist.
+    fn not_made() -> Made
+        ensures { λ r. ⌜ (r .refusal ≡ 3) × (r .chip ≡ standardChip) ⌝ }
+    {
+        Made {
+            refusal: 3,
+            chip: Chip::standard(),
+        }
     }
 
     // A new chip: refusal 3, with the standard chip, for a part above 1 or a select above 7.
     pub fn new(part: u8, select: u8) -> Made
         ensures { λ r. ⌜ r ≡ made part select ⌝ }
     {
-        if part <= 1 {
-            if select <= 7 {
-                return Made {
-                    refusal: 0,
-                    chip: Chip::at_power_up(part, select, false, 0),
-                };
-            }
+        if (part <= 1) & (select <= 7) {
             return Made {
-                refusal: 3,
-                chip: Chip::standard(),
+                refusal: 0,
+                chip: Chip::at_power_up(part, select, false, 0),
             };
         }
-        Made {
-            refusal: 3,
-            chip: Chip::standard(),
-        }
+        Chip::not_made()
     }
 
     // Whether each number that the chip carries is in its range.

@@ -1,3 +1,4 @@
+pub mod Bench
 pub mod Cases
 pub mod Demand3
 pub mod OneAnswer
