@@ -37,7 +37,7 @@ echo
 echo "## Public operations and contracts that differ"
 echo
 for name in before after; do
-    (cd "$room/$name/crates" && awk '/^ *pub (extern "C" )?fn /, /^ *\{$/ { print FILENAME ": " $0 }' */src/*.rt) > "$room/$name.contracts"
+    (cd "$room/$name/crates" && awk '/^ *pub (extern "C" )?fn /, /\{$/ { print FILENAME ": " $0 }' */src/*.rt) > "$room/$name.contracts"
 done
 if diff "$room/before.contracts" "$room/after.contracts"; then
     echo "none of the $(grep -c 'fn ' "$room/after.contracts")"
