@@ -58,6 +58,40 @@ static void the_driver_waits(void **state)
     assert_int_equal(memory_wait(SELECT, 100), 1);
 }
 
+/* 20 bytes on an X24F128 are all acknowledged, and leave none of them. The cycle is waited out as after a store. */
+static void a_short_load_spoils(void **state)
+{
+    uint8_t spoilt[CREP_RECORD];
+
+    memset(spoilt, 0xa5, sizeof spoilt);
+    board.chip.part = CREP_X24F128;
+    board.chip.spoil = 0xa5;
+    board.polls = 3;
+    assert_true(memory_write(SELECT, GATE * CREP_RECORD, *state, 20));
+    assert_int_equal(board_note(), CREP_NOTE_NOT_32);
+    assert_int_equal(memory_wait(SELECT, 100), 4);
+    assert_memory_equal(board.array + GATE * CREP_RECORD, spoilt, CREP_RECORD);
+    assert_int_equal(board.array[(GATE + 1) * CREP_RECORD], 0xff);
+}
+
+/* A write that breaks off must not end in a STOP alone: that is a short load. A START before it drops the load. */
+static void an_abandoned_write_spoils_nothing(void **state)
+{
+    const uint8_t *record = *state;
+    int i;
+
+    board.chip.part = CREP_X24F128;
+    assert_true(memory_write_sector(SELECT, GATE, record));
+    wires_start();
+    assert_true(wires_send(0xa0 | SELECT << 1));
+    assert_true(wires_send(GATE * CREP_RECORD / 256) && wires_send(GATE * CREP_RECORD % 256));
+    for (i = 0; i < 20; i++)
+        assert_true(wires_send(0x00));
+    wires_abandon();
+    assert_int_equal(board_note(), CREP_NOTE_DROPPED);
+    assert_memory_equal(board.array + GATE * CREP_RECORD, record, CREP_RECORD);
+}
+
 static void a_locked_sector_stays(void **state)
 {
     board.chip.bl = 3;
@@ -148,6 +182,8 @@ int main(void)
     const struct CMUnitTest tests[] = {
         cmocka_unit_test_setup(a_record_comes_back, new_board),
         cmocka_unit_test_setup(the_driver_waits, new_board),
+        cmocka_unit_test_setup(a_short_load_spoils, new_board),
+        cmocka_unit_test_setup(an_abandoned_write_spoils_nothing, new_board),
         cmocka_unit_test_setup(a_locked_sector_stays, new_board),
         cmocka_unit_test_setup(the_kit_sends_a_record, new_board),
         cmocka_unit_test_setup(rpel_must_be_clear, new_board),

@@ -22,6 +22,12 @@ void wires_stop(void)
     board_wires(1, 1);
 }
 
+void wires_abandon(void)
+{
+    wires_start();
+    wires_stop();
+}
+
 int wires_clock(int sda)
 {
     board_wires(0, sda);
@@ -77,7 +83,7 @@ static int send_address(uint8_t select, uint16_t address)
         && wires_send((uint8_t)address);
 }
 
-/* The stop comes after a refused byte too: it leaves the chip in standby. */
+/* Noise may hide an acknowledge: a stop after a byte that only seems refused would commit a short load. */
 int memory_write(uint8_t select, uint16_t address, const uint8_t *bytes, size_t n)
 {
     int good = send_address(select, address);
@@ -85,7 +91,10 @@ int memory_write(uint8_t select, uint16_t address, const uint8_t *bytes, size_t 
 
     for (i = 0; good && i < n; i++)
         good = wires_send(bytes[i]);
-    wires_stop();
+    if (good)
+        wires_stop();
+    else
+        wires_abandon();
     return good;
 }
 
@@ -162,7 +171,7 @@ int memory_play(uint8_t select, const uint8_t *events, size_t n)
         if (before == (CREP_SCL | CREP_SDA) && now == CREP_SCL)
             clocks = 0;
         if (!(before & CREP_SCL) && (now & CREP_SCL) && ++clocks % 9 == 0 && board_line()) {
-            wires_stop();
+            wires_abandon();
             return 0;
         }
     }

@@ -12,6 +12,7 @@
 
 void wires_start(void);                 /* also as a repeated start, after a ninth clock */
 void wires_stop(void);                  /* after a ninth clock: the chip then sees exactly one bit before it */
+void wires_abandon(void);               /* ends a write that is not to be: a start drops the load, a stop follows */
 int wires_clock(int sda);               /* one clock; returns the level of the data wire in its high half */
 int wires_send(uint8_t byte);           /* returns whether the chip acknowledged */
 uint8_t wires_receive(int more);        /* more: another byte is to follow */
@@ -22,8 +23,10 @@ int wires_free(void);
 /* ---- The memory: each returns whether the chip acknowledged every byte ---- */
 
 int memory_enable(uint8_t select);      /* sets PEL: data bytes are taken until the next power-up */
-int memory_write(uint8_t select, uint16_t address, const uint8_t *bytes, size_t n);
 int memory_read(uint8_t select, uint16_t address, uint8_t *bytes, size_t n);
+
+/* An X24F128 acknowledges any n, and spoils the sector where n is not 32. */
+int memory_write(uint8_t select, uint16_t address, const uint8_t *bytes, size_t n);
 
 /* Asks the chip until it answers again, at most `polls` times. Returns how often it was asked; 0: still busy. */
 int memory_wait(uint8_t select, int polls);
@@ -33,7 +36,7 @@ int memory_write_sector(uint8_t select, unsigned sector, const uint8_t *bytes);
 int memory_read_sector(uint8_t select, unsigned sector, uint8_t *bytes);
 
 /* Plays events as crep_send writes them, from wires that are let go: samples on the pins, and where CREP_DONE stands
- * the cycle is waited out. At the first byte that is not acknowledged it makes a stop and plays no more. */
+ * the cycle is waited out. At the first byte that is not acknowledged it abandons the write and plays no more. */
 int memory_play(uint8_t select, const uint8_t *events, size_t n);
 
 /* A gate's record as crep_send spells it: PEL set, 32 bytes written, the cycle waited out. 0 also where crep_send

@@ -1,9 +1,11 @@
 /*
- * The first test a builder writes: 27 characters sent where 24 fit, and what that does to the limits. Exit status: 0
- * the limits are as before, 1 the write reached them, 2 the test itself went wrong and says nothing about the firmware.
+ * The first test a builder writes: 27 characters sent where 24 fit, and what that does to the limits on either part.
+ * Exit status: 0 the limits are as before, 1 a write reached them, 2 the test itself went wrong and says nothing about
+ * the firmware.
  */
 #include <stdio.h>
 #include <stdlib.h>
+#include <string.h>
 #include "crepulanter.h"
 
 static struct crep_chip chip;
@@ -35,17 +37,26 @@ static void wires(int scl, int sda) { call(crep_event(&chip, array, sizeof array
 static void bit(int level) { wires(0, level); wires(1, level); }
 static void send(int byte) { for (int i = 7; i >= 0; i--) bit(byte >> i & 1); bit(1); acknowledged(); }
 
-int main(void)
+/* Returns whether the write reached the limits of gate 0. */
+static int label_on(uint8_t part, const char *name)
 {
-    call(crep_new(&chip, CREP_X24128, 0));          /* select 0; its array holds 00h here */
+    sent = 0; memset(array, 0, sizeof array);       /* every limit 0 */
+    call(crep_new(&chip, part, 0));                 /* select 0 */
     chip.pel = 1;                                   /* as after the byte 02h at FFFFh: data is taken */
     wires(1, 1); wires(1, 0);                       /* START */
     send(0xa0); send(0x00); send(0x06);             /* write, from byte 6 of gate 0: its label */
     for (int i = 0; i < 27; i++) send('A' + i);     /* your firmware's mistake */
     wires(0, 0); wires(1, 0); wires(1, 1);          /* STOP */
-    int note = CREP_NOTE(answer), hit = array[0] | array[1] | array[2] | array[3];
-    if (note != CREP_NOTE_STORED) wrong("nothing stored, note", note, crep_note_text(note));
-    printf("note 1, closed limit %02x %02x: %s\n", array[0], array[1],
-           hit ? "MISTAKE FOUND, the label ran into it" : "as before");
-    return hit != 0;                                /* 1: the write went round into the limit */
+    int note = CREP_NOTE(answer), spoilt = note == CREP_NOTE_NOT_32;
+    int hit = spoilt || array[0] || array[1] || array[2] || array[3];
+    if (!spoilt && note != CREP_NOTE_STORED) wrong("nothing stored, note", note, crep_note_text(note));
+    printf("%s: note %d, closed limit %02x %02x: %s\n", name, note, array[0], array[1], !hit ? "as before"
+           : spoilt ? "MISTAKE FOUND, the sector is spoilt" : "MISTAKE FOUND, the label ran into it");
+    return hit;
+}
+
+int main(void)
+{
+    int first = label_on(CREP_X24128, "X24128"), second = label_on(CREP_X24F128, "X24F128");
+    return first || second;
 }

@@ -77,7 +77,7 @@ static int send_long_label(void)
 {
     int sent = memory_write(SELECT, GATE * CREP_RECORD + 6, (const uint8_t *)long_label, sizeof long_label - 1);
 
-    return sent && memory_wait(SELECT, 100) > 0;
+    return sent && memory_wait(SELECT, 100) == POLLS + 1;
 }
 
 static void report_long_label(void)
@@ -92,7 +92,7 @@ static void report_long_label(void)
          == CREP_REFUSED_LABEL_LENGTH && memcmp(copy, record, sizeof copy) == 0,
          "the kit refuses it (8) and keeps the record");
     step(send_long_label() && board_note() == CREP_NOTE_STORED,
-         "sent past the kit to byte 6 of the sector: the X24128 takes it (note 1)");
+         "sent past the kit to byte 6 of the sector: the X24128 takes it (note 1), cycle waited out");
     show_sector();
     snprintf(text, sizeof text, "the 27th character is in byte 0: closed limit was 150, is %d", closed_limit());
     step(closed_limit() == 'Y' * 256 + 150, text);
@@ -100,15 +100,35 @@ static void report_long_label(void)
          "the kit refuses to read it (13, sum wrong): no gate moves by it");
 }
 
+static int sector_is_all(uint8_t byte)
+{
+    int i, same = 0;
+
+    for (i = 0; i < CREP_RECORD; i++)
+        same += sector[i] == byte;
+    return same == CREP_RECORD;
+}
+
 static void report_other_part(void)
 {
+    int32_t closed, opened, travel;
+
     printf("   The same firmware on an X24F128\n");
     board_new(CREP_X24F128, SELECT);
     board.polls = POLLS;
     step(memory_enable(SELECT) && memory_write_sector(SELECT, GATE, record) && board_note() == CREP_NOTE_STORED,
          "32 bytes: stored (note 1)");
-    step(send_long_label() && board_note() == CREP_NOTE_NOT_32 && closed_limit() == 150,
-         "27 bytes: nothing written (note 5), limit still 150");
+    step(send_long_label() && board_note() == CREP_NOTE_NOT_32 && sector_is_all(0xff),
+         "27 bytes: the sector is spoilt (note 5), cycle waited out");
+    show_sector();
+    step(read_gate(&closed, &opened, &travel) == CREP_OK && travel == 0,
+         "read back: a free record, so the gate is gone and nothing is refused");
+    board.chip.spoil = 0x00;
+    step(send_long_label() && board_note() == CREP_NOTE_NOT_32 && sector_is_all(0x00)
+         && read_gate(&closed, &opened, &travel) == CREP_REFUSED_STATE_BYTE,
+         "again, with 00h as the chip's spoil byte: the kit refuses to read it (12)");
+    step(memory_write_sector(SELECT, GATE, record) && board_note() == CREP_NOTE_STORED
+         && read_gate(&closed, &opened, &travel) == CREP_OK && closed == 150, "32 bytes: the record is back (note 1)");
     printf("\n");
 }
 

@@ -36,8 +36,11 @@
  * FOR THE AUTHOR OF A DRIVER
  *   - After crep_new and after a power-up the chip's last SCL is low. A first sample with SCL high and SDA pulled is
  *     then a rising clock and no START: send one sample with both wires high before it.
- *   - Notes 1 and 2 leave the chip busy, and it stays busy for ever, deaf to the wires, unless CREP_DONE (or a
+ *   - Notes 1, 2 and 5 leave the chip busy, and it stays busy for ever, deaf to the wires, unless CREP_DONE (or a
  *     power-up) is sent.
+ *   - An X24F128 takes whole sectors. A load of fewer or more than 32 bytes spoils its sector, unless that is locked:
+ *     neither the load nor what stood there before is left, all 32 bytes are chip.spoil (note 5). To break a write off
+ *     make a START and then a STOP: the START drops the load (note 7), a STOP alone commits it.
  *   - A write that ends in note 0 was not taken: PEL is not set, or the slave byte names another select, or the chip is
  *     busy, or a call was refused and its result dropped. The missing acknowledge tells which byte it was.
  *   - Letting SDA go while SCL is high is a STOP, and a STOP can commit a load. Where a bus hangs, do not tidy the pins
@@ -60,8 +63,8 @@
 extern "C" {
 #endif
 
-#define CREP_VERSION "0.4.0"
-#define CREP_VERSION_NUMBER 400         /* the same for #if: 10000 * first + 100 * second + third */
+#define CREP_VERSION "0.5.0"
+#define CREP_VERSION_NUMBER 500         /* the same for #if: 10000 * first + 100 * second + third */
 
 /* Before a call whose result must not be dropped: the compiler warns where it is. */
 #if defined(__GNUC__)
@@ -80,12 +83,12 @@ extern "C" {
 #define CREP_TRACE 65536        /* the longest trace of one crep_run */
 #define CREP_PULSES 10          /* the most pulses that crep_recover makes */
 #define CREP_SEND 713           /* events that crep_send writes */
-#define CREP_STATE 81           /* bytes of a struct crep_chip */
+#define CREP_STATE 82           /* bytes of a struct crep_chip */
 
 /* ---- Parts, events, answers ---- */
 
 #define CREP_X24128 0           /* stores a load of any length */
-#define CREP_X24F128 1          /* stores 32 bytes or none; the part of the standard chip */
+#define CREP_X24F128 1          /* stores 32 bytes, any other load spoils its sector; the part of the standard chip */
 
 #define CREP_SCL 1              /* in a sample: the clock is high */
 #define CREP_SDA 2              /* in a sample: the master lets the data wire go */
@@ -103,7 +106,7 @@ extern "C" {
 #define CREP_NOTE_REGISTER 2    /* register cycle begun: PPEN and BL are set, the chip is busy */
 #define CREP_NOTE_LATCH 3       /* PEL or RPEL set or cleared by a register byte */
 #define CREP_NOTE_LOCKED 4      /* the sector is locked: nothing written */
-#define CREP_NOTE_NOT_32 5      /* X24F128 and not exactly 32 bytes: nothing written */
+#define CREP_NOTE_NOT_32 5      /* X24F128 and not exactly 32 bytes: the sector is all chip.spoil, the chip is busy */
 #define CREP_NOTE_NOT_TAKEN 6   /* register byte not taken: RPEL not set before, reserved bits, or PPEN with the pin */
 #define CREP_NOTE_DROPPED 7     /* loaded bytes dropped by a START, a misplaced STOP or a second register byte */
 
@@ -184,14 +187,18 @@ extern "C" {
  *     count         data bytes loaded since the address; 33 means 33 or more                     0-33
  *     places[i]     a byte is loaded for place i of the sector                                   flag
  *     load[i]       that byte; a register byte is load[0]                                        any
+ *     spoil         the byte that a short load leaves in all 32 places; FFh in a new chip        any
+ *
+ * No event and no power-up changes spoil. A sector spoilt with FFh reads as a free record; set chip.spoil after
+ * crep_new to have it refused, with 13 for A5h and with 12 for any other byte.
  */
 struct crep_chip {
     uint8_t part, select, ppen, bl, rpel, pel, counter_high, counter_low, mark, busy, scl, line;
-    uint8_t phase, bits, byte, high, count, places[32], load[32];
+    uint8_t phase, bits, byte, high, count, places[32], load[32], spoil;
 };
 
 /*
- * Makes a new chip: PPEN 0, BL 0, just powered up (standby, last SCL low, last line high).
+ * Makes a new chip: PPEN 0, BL 0, spoil FFh, just powered up (standby, last SCL low, last line high).
  * Refuses with 3, and then makes the standard chip, an X24F128 with select 0 whatever was asked for.
  */
 CREP_CHECKED uint8_t crep_new(struct crep_chip *chip, uint8_t part, uint8_t select);
@@ -213,8 +220,8 @@ CREP_CHECKED uint8_t crep_run(struct crep_chip *chip, uint8_t *array, size_t arr
 /*
  * Frees a bus that the chip holds: pulses the clock with the data wire let go until the line is high, then makes a
  * START. *pulses is the number of that pulse, 1 to 10. pin is the protect pin's level, 0 low, any other value high.
- * The array and PPEN, BL, RPEL, PEL stay; the counter, the mark, the load and the phase may not. SCL is high and SDA
- * pulled afterwards. A busy chip reports 1 and ignores the START.
+ * The array and PPEN, BL, RPEL, PEL, spoil stay; the counter, the mark, the load and the phase may not. SCL is high
+ * and SDA pulled afterwards. A busy chip reports 1 and ignores the START.
  * Refuses with 1, 2; *pulses is then 0.
  */
 CREP_CHECKED uint8_t crep_recover(struct crep_chip *chip, uint8_t *array, size_t array_len,
@@ -288,7 +295,7 @@ static inline const char *crep_note_text(int note)
         "register written: cycle begun",
         "PEL or RPEL set or cleared",
         "sector locked, nothing written",
-        "not exactly 32 bytes, nothing written",
+        "not exactly 32 bytes, sector spoilt: array cycle begun",
         "register byte not taken",
         "loaded bytes dropped"
     };

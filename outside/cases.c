@@ -1,6 +1,6 @@
 /*
- * The paper's worked cases 1 to 13, its errors that look right, demand 3 on random noise, and what the request for the
- * sender says, on the model and on the library. What is expected stands here as the paper gives it.
+ * The paper's worked cases 1 to 13, its errors that look right, demand 3 on random noise, and what the requests for the
+ * sender and for short loads say, on the model and on the library. What is expected stands here as the paper gives it.
  */
 #include <stdio.h>
 #include <string.h>
@@ -162,12 +162,103 @@ static int case_6(const struct kit *kit)
         && counter_of(&bench.chip) == 1 && bench.chip.busy;
 }
 
-/* 7. X24F128: 31 bytes note 5, 32 note 1, 33 note 5. */
+/* n bytes 00h from an address of an X24F128 on, with PEL and RPEL 1 and an array of 77h: whether the note is this one,
+ * the sector then holds `byte` and 77h stands beside it, and notes 1 and 5 alone begin a cycle and clear RPEL. */
+static int leaves(const struct kit *kit, uint8_t bl, uint8_t spoil, unsigned address, size_t n, int note, uint8_t byte)
+{
+    static const uint8_t bytes[64];
+    static uint8_t wanted[CREP_ARRAY];
+    unsigned sector = address / 32 * 32;
+    int cycle = note == 1 || note == 5;
+
+    open_bench(kit, CREP_X24F128);
+    bench.chip.pel = bench.chip.rpel = 1;
+    bench.chip.bl = bl;
+    bench.chip.spoil = spoil;
+    memset(bench.array, 0x77, CREP_ARRAY);
+    memset(wanted, 0x77, CREP_ARRAY);
+    memset(wanted + sector, byte, 32);
+    wire_write(&bench.wire, 0, address, bytes, n);
+    return last_note() == note && memcmp(bench.array, wanted, CREP_ARRAY) == 0
+        && bench.chip.busy == cycle && bench.chip.rpel == !cycle && bench.chip.pel && bench.chip.spoil == spoil
+        && bench.chip.phase == CREP_PHASE_STANDBY && bench.chip.count == 0
+        && counter_of(&bench.chip) == sector + (address + n) % 32;
+}
+
+/* 7. X24F128: 31 bytes note 5, 32 note 1, 33 note 5; the first and the last leave 32 spoil bytes. */
 static int case_7(const struct kit *kit)
 {
-    return notes_of_writes(kit, 1, 0, 0, 31) == 5 && bench.array[0] == 0xff
-        && notes_of_writes(kit, 1, 0, 0, 32) == 1 && bench.array[31] == 0 && bench.array[32] == 0xff
-        && notes_of_writes(kit, 1, 0, 0, 33) == 5 && bench.array[0] == 0xff;
+    static const uint8_t spoils[] = { 0xff, 0x00, 0xa5, 0x3c };
+    size_t i;
+    int good = 1;
+
+    for (i = 0; i < sizeof spoils; i++)
+        good = good && leaves(kit, 0, spoils[i], 0x100, 31, 5, spoils[i])
+            && leaves(kit, 0, spoils[i], 0x100, 32, 1, 0x00) && leaves(kit, 0, spoils[i], 0x100, 33, 5, spoils[i])
+            && leaves(kit, 0, spoils[i], 0x006, 27, 5, spoils[i]) && leaves(kit, 0, spoils[i], 0x3fff, 1, 5, spoils[i]);
+    return good;
+}
+
+/* A locked sector never spoils, note 4, nor does a STOP with no data byte, or a START that drops a load, note 7. */
+static int short_loads_that_stay(const struct kit *kit)
+{
+    int good = leaves(kit, 1, 0x3c, 0x3000, 31, 4, 0x77) && leaves(kit, 1, 0x3c, 0x3fff, 33, 4, 0x77)
+        && leaves(kit, 1, 0x3c, 0x2fe0, 31, 5, 0x3c) && leaves(kit, 2, 0x3c, 0x2000, 1, 4, 0x77)
+        && leaves(kit, 2, 0x3c, 0x1fe0, 1, 5, 0x3c) && leaves(kit, 3, 0x3c, 0x0000, 64, 4, 0x77)
+        && leaves(kit, 0, 0x3c, 0x0100, 0, 0, 0x77);
+
+    open_bench(kit, CREP_X24F128);
+    bench.chip.pel = 1;
+    bench.chip.spoil = 0x3c;
+    wire_address(&bench.wire, 0, 0x0100);
+    wire_send(&bench.wire, 0x00);
+    wire_restart(&bench.wire);
+    return good && last_note() == 7 && bench.array[0x100] == 0xff && !bench.chip.busy;
+}
+
+/* An X24128 takes any count, and a register byte is no short load. */
+static int what_never_spoils(const struct kit *kit)
+{
+    int good = notes_of_writes(kit, 0, 0, 0x100, 31) == 1 && bench.array[0x11e] == 0x00 && bench.array[0x11f] == 0xff
+        && notes_of_writes(kit, 0, 0, 0x100, 33) == 1 && bench.array[0x11f] == 0x00 && bench.array[0x120] == 0xff;
+
+    open_bench(kit, CREP_X24F128);
+    bench.chip.spoil = 0x3c;
+    wire_register(&bench.wire, 0, 0x02);
+    return good && last_note() == 3 && bench.array[0] == 0xff && !bench.chip.busy;
+}
+
+/* FFh in a new chip of either part and in that of refusal 3; program-done, power-up and a recovery keep any other. */
+static int spoil_is_kept(const struct kit *kit)
+{
+    uint8_t pulses;
+    int good = kit->make(&bench.chip, 0, 7) == 0 && bench.chip.spoil == 0xff && kit->make(&bench.chip, 1, 0) == 0
+        && bench.chip.spoil == 0xff && kit->make(&bench.chip, 2, 0) == 3 && bench.chip.spoil == 0xff
+        && leaves(kit, 0, 0x3c, 0x0100, 31, 5, 0x3c);
+
+    wire_open(&bench.wire, bench.trace, sizeof bench.trace);
+    wire_event(&bench.wire, 8);
+    wire_event(&bench.wire, 9);
+    good = good && last_note() == 0 && bench.chip.spoil == 0x3c && !bench.chip.busy;
+    return good && kit->recover(&bench.chip, bench.array, CREP_ARRAY, 0, &pulses) == 0 && bench.chip.spoil == 0x3c;
+}
+
+/* What a panel makes of a sector spoilt with this byte: the refusal, or 100 for a free record. */
+static int spoilt_reads(const struct kit *kit, uint8_t spoil)
+{
+    int32_t closed, opened, travel;
+    uint8_t length, empty, refusal;
+
+    if (!leaves(kit, 0, spoil, 0x0106, 24, 5, spoil))
+        return -1;
+    refusal = kit->record_read(bench.array + 0x100, 32, &closed, &opened, &travel, &length, &empty);
+    return empty ? 100 : refusal;
+}
+
+static int spoilt_sector_is_no_gate(const struct kit *kit)
+{
+    return spoilt_reads(kit, 0xff) == 100 && spoilt_reads(kit, 0x00) == 12 && spoilt_reads(kit, 0x3c) == 12
+        && spoilt_reads(kit, 0xa5) == 13;
 }
 
 /* 8. BL 1 locks 3000h and not 2FFFh; BL 2 locks 2000h and not 1FFFh. */
@@ -300,7 +391,7 @@ static void noise(struct chance *chance, size_t n)
                                                                          : 4 + chance_below(chance, 4)));
 }
 
-/* Messages that try to unlock and to write, with the pin high, each with its program-done. */
+/* Messages that try to unlock, to write and to spoil, with the pin high, each with its program-done. */
 static void attack(struct chance *chance)
 {
     static const uint8_t commands[] = { 0x02, 0x06, 0x02 };
@@ -313,7 +404,7 @@ static void attack(struct chance *chance)
             wire_register(&bench.wire, bench.chip.select, commands[k]);
             wire_event(&bench.wire, 8);
         }
-        wire_write(&bench.wire, bench.chip.select, chance_below(chance, 0x4000), bytes, 32);
+        wire_write(&bench.wire, bench.chip.select, chance_below(chance, 0x4000), bytes, i % 2 ? 31 : 32);
         wire_event(&bench.wire, 8);
         noise(chance, chance_below(chance, 40));
     }
@@ -328,6 +419,7 @@ static unsigned noisy_bench(const struct kit *kit, struct chance *chance)
     bench.chip.select = (uint8_t)chance_below(chance, 8);
     bench.chip.ppen = 1;
     bench.chip.bl = (uint8_t)(1 + chance_below(chance, 3));
+    bench.chip.spoil = chance_byte(chance);
     chance_fill(chance, bench.array, CREP_ARRAY);
     attack(chance);
     noise(chance, chance_below(chance, 2000));
@@ -527,7 +619,7 @@ static const struct {
     { "4   the record of NORTH", case_4 },
     { "5   label of 24 taken, 25 refused", case_5 },
     { "6   27 bytes at 0006h reach byte 0", case_6 },
-    { "7   X24F128: 31, 32, 33 bytes", case_7 },
+    { "7   X24F128: 31, 32, 33 bytes, and the array", case_7 },
     { "8   BL 1 and BL 2 at their edges", case_8 },
     { "9   register 06h with PEL 0", case_9 },
     { "10  read at 3FFFh, then 0000h", case_10 },
@@ -535,6 +627,10 @@ static const struct {
     { "12  stopped with SCL high: 9 pulses", case_12 },
     { "13  PEL set: note 3 at 77 on both parts", case_13 },
     { "-   the standard chip: an X24F128 with select 0", standard_chip },
+    { "-   short loads that leave a sector: locked, empty", short_loads_that_stay },
+    { "-   no spoil on an X24128, nor by a register byte", what_never_spoils },
+    { "-   the spoil byte: FFh when new, kept by all events", spoil_is_kept },
+    { "-   a spoilt sector: free with FFh, else 12 or 13", spoilt_sector_is_no_gate },
     { "-   a STOP needs exactly one bit", stop_needs_one_bit },
     { "-   the pin is read at the STOP", pin_is_read_at_the_stop },
     { "-   new limits keep the label", limits_keep_the_label },

@@ -24,6 +24,7 @@ struct side {
 static struct side library = { .kit = &kit_library };
 static struct side model = { .kit = &kit_model };
 static uint8_t trace[LONG_TRACE];
+static uint8_t held[CREP_ARRAY];        /* the array as the notes of single events tell it */
 
 /* Gives both sides the same chip, array and rubbish in what is to be written. */
 static void same_start(struct chance *chance, const struct crep_chip *chip)
@@ -31,6 +32,7 @@ static void same_start(struct chance *chance, const struct crep_chip *chip)
     stir_array(chance, library.array);
     memset(library.array + CREP_ARRAY, 0x77, MARGIN);
     memcpy(model.array, library.array, sizeof model.array);
+    memcpy(held, library.array, CREP_ARRAY);
     library.chip = model.chip = *chip;
     library.number = model.number = chance_byte(chance);
 }
@@ -92,21 +94,48 @@ static void one_event(struct side *side, size_t array_len, uint8_t event)
     side->refusal = side->kit->event(&side->chip, side->array, array_len, event, &side->number);
 }
 
-/* Compares one event on both sides as they stand; `at` is its index in the trace. */
-static int compare_one(size_t array_len, uint8_t event, size_t at)
+/* What a note says of the array: 1 that the loaded places are written, 5 the whole sector, any other nothing. */
+static void hold(const struct crep_chip *before, int note)
 {
-    struct crep_chip before = model.chip;
+    unsigned sector, i;
 
-    one_event(&library, array_len, event);
-    one_event(&model, array_len, event);
-    if (agree()) {
-        tally.events++;
-        tally.refusals[model.refusal]++;
-        tally.notes[CREP_NOTE(model.number)]++;
-        if (model.refusal == 0)
-            tally.phases[model.chip.phase]++;
-        return 0;
-    }
+    if (note != CREP_NOTE_STORED && note != CREP_NOTE_NOT_32)
+        return;
+    sector = (before->counter_high * 256u + before->counter_low) / 32 * 32;
+    for (i = 0; i < 32; i++)
+        if (note == CREP_NOTE_NOT_32)
+            held[sector + i] = before->spoil;
+        else if (before->places[i])
+            held[sector + i] = before->load[i];
+}
+
+/* The library's side is looked at, so that a write beside the notes which both sides share is found too. */
+static int as_held(void)
+{
+    if (memcmp(library.array, held, CREP_ARRAY) == 0)
+        return 1;
+    tally_difference("what the notes say of the array: both sides break it");
+    show_difference(stdout, "array, with what the notes say as the model's", library.array, held, CREP_ARRAY);
+    return 0;
+}
+
+static void count_event(const struct crep_chip *before)
+{
+    int note = CREP_NOTE(model.number);
+
+    tally.events++;
+    tally.refusals[model.refusal]++;
+    tally.notes[note]++;
+    if (model.refusal == 0)
+        tally.phases[model.chip.phase]++;
+    if (note == CREP_NOTE_NOT_32)
+        tally.short_loads[before->spoil != 0xff]++;
+    if (note == CREP_NOTE_LOCKED && before->part == CREP_X24F128 && before->count != 32)
+        tally.short_loads[2]++;
+}
+
+static int differ_event(const struct crep_chip *before, size_t array_len, uint8_t event, size_t at)
+{
     tally_difference("crep_event");
     printf("    event ");
     show_event(stdout, event);
@@ -118,8 +147,22 @@ static int compare_one(size_t array_len, uint8_t event, size_t at)
     printf(", model ");
     show_answer(stdout, model.number);
     printf("\n");
-    show_sides(&before, "answer byte");
+    show_sides(before, "answer byte");
     return 1;
+}
+
+/* Compares one event on both sides as they stand; `at` is its index in the trace. */
+static int compare_one(size_t array_len, uint8_t event, size_t at)
+{
+    struct crep_chip before = model.chip;
+
+    one_event(&library, array_len, event);
+    one_event(&model, array_len, event);
+    if (!agree())
+        return differ_event(&before, array_len, event, at);
+    count_event(&before);
+    hold(&before, CREP_NOTE(model.number));
+    return 0;
 }
 
 int compare_chips(struct chance *chance)
@@ -130,11 +173,11 @@ int compare_chips(struct chance *chance)
 
     stir_chip(chance, &chip);
     if (chance_once_in(chance, 3))
-        stir_spoil(chance, &chip);
+        stir_out_of_range(chance, &chip);
     if (chance_once_in(chance, 20))
         event = (uint8_t)(chance_once_in(chance, 2) ? 10 : chance_byte(chance));
     same_start(chance, &chip);
-    return compare_one(array_len, event, 0);
+    return compare_one(array_len, event, 0) || !as_held();
 }
 
 /* ---- Traces ---- */
@@ -205,6 +248,8 @@ int compare_events(struct chance *chance)
     for (i = 0; i < n.trace; i++)
         if (compare_one(CREP_ARRAY, trace[i], i))
             return 1;
+    if (!as_held())
+        return 1;
     *chance = again;
     same_start(chance, &chip);
     if (compare_run("crep_run", kit_library.run, &chip, &n))
@@ -231,7 +276,7 @@ int compare_traces(struct chance *chance)
     wire_open(&wire, trace, n.trace);
     stir_trace(chance, &wire, chip.select);
     if (kind == 1)
-        stir_spoil(chance, &chip);
+        stir_out_of_range(chance, &chip);
     if (kind <= 3 && n.trace > 0)
         trace[chance_once_in(chance, 2) ? n.trace - 1 : chance_below(chance, (uint32_t)n.trace)] =
             (uint8_t)(chance_once_in(chance, 2) ? 10 : 10 + chance_below(chance, 246));
@@ -254,7 +299,7 @@ static void held_chip(struct chance *chance, struct crep_chip *chip)
         chip->busy = 0;
     }
     if (chance_once_in(chance, 8))
-        stir_spoil(chance, chip);
+        stir_out_of_range(chance, chip);
 }
 
 int compare_recovery(struct chance *chance)

@@ -135,7 +135,7 @@ static int answered(const uint8_t *answers, int last)
     return low == 39;
 }
 
-/* Idle in standby with PEL 1 and the sector's address, both wires high; part, select, PPEN and BL as before. */
+/* Idle in standby with PEL 1 and the sector's address, both wires high; part, select, PPEN, BL and spoil as before. */
 static int left(const struct order *o, const struct crep_chip *before, const struct crep_chip *chip)
 {
     struct crep_chip wanted;
@@ -145,6 +145,7 @@ static int left(const struct order *o, const struct crep_chip *before, const str
     wanted.select = before->select;
     wanted.ppen = before->ppen;
     wanted.bl = before->bl;
+    wanted.spoil = before->spoil;
     wanted.pel = wanted.scl = wanted.line = 1;
     wanted.counter_high = (uint8_t)(o->gate / 8);
     wanted.counter_low = (uint8_t)(o->gate % 8 * 32);

@@ -110,7 +110,7 @@ static struct crep_chip *lend_chip(struct chance *chance, int i)
 
     stir_chip(chance, &chip);
     if (chance_once_in(chance, 4))
-        stir_spoil(chance, &chip);
+        stir_out_of_range(chance, &chip);
     if (chance_once_in(chance, 10))
         chance_fill(chance, (uint8_t *)&chip, sizeof chip);
     memcpy(bytes, &chip, sizeof chip);

@@ -16,7 +16,7 @@ enum phase {
     SENDING, WAITING, AGAIN
 };
 
-enum note { QUIET, ARRAY_CYCLE, REGISTER_CYCLE, LATCHED, LOCKED, SHORT_LOAD, NOT_TAKEN, DROPPED };
+enum note { QUIET, ARRAY_CYCLE, REGISTER_CYCLE, LATCHED, LOCKED, SPOILT, NOT_TAKEN, DROPPED };
 
 /* "What a rightly placed STOP does": first locked address for each part and BL, 4000h for none. */
 static const unsigned first_locked[2][4] = {
@@ -105,6 +105,7 @@ static int phase_good(const struct crep_chip *c)
     return 1;
 }
 
+/* The spoil byte is any byte (T-03). */
 static int chip_good(const struct crep_chip *c)
 {
     return c->part <= 1 && c->select <= 7 && c->bl <= 3 && counter_of(c) <= 0x3fff && c->count <= 33
@@ -298,15 +299,25 @@ static enum note on_fall(struct crep_chip *c, const uint8_t *array)
 
 /* ---- What a rightly placed STOP does ---- */
 
+/* Request T-03: every place takes the spoil byte, loaded or not, in a cycle. */
+static enum note spoil(struct crep_chip *c, uint8_t *sector)
+{
+    memset(sector, c->spoil, 32);
+    c->busy = 1;
+    c->rpel = 0;
+    return SPOILT;
+}
+
+/* The lock first, then the count, which the X24F128 alone asks for. */
 static enum note write_array(struct crep_chip *c, uint8_t *array)
 {
     unsigned sector = counter_of(c) / 32 * 32;
     unsigned i;
 
-    if (c->part == 1 && c->count != 32)
-        return SHORT_LOAD;
     if (sector >= first_locked[c->part][c->bl])
         return LOCKED;
+    if (c->part == 1 && c->count != 32)
+        return spoil(c, array + sector);
     for (i = 0; i < 32; i++)
         if (c->places[i])
             array[sector + i] = c->load[i];
@@ -440,13 +451,15 @@ static uint8_t one_event(struct crep_chip *c, uint8_t *array, uint8_t event)
 
 /* ---- The entries ---- */
 
-/* A new chip has PPEN 0 and BL 0 and is at power-up; refused, it is the standard one, an X24F128 with select 0. */
+/* A new chip has PPEN 0, BL 0 and the spoil byte FFh, and is at power-up; refused, it is the standard one, an X24F128
+ * with select 0. */
 uint8_t model_new(struct crep_chip *chip, uint8_t part, uint8_t select)
 {
     int refused = part > 1 || select > 7;
 
     memset(chip, 0, sizeof *chip);
     power_up(chip);
+    chip->spoil = 0xff;
     chip->part = refused ? CREP_X24F128 : part;
     chip->select = refused ? 0 : select;
     return refused ? 3 : 0;

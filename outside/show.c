@@ -37,7 +37,7 @@ void show_trace(FILE *out, const uint8_t *trace, size_t first, size_t last)
     fputc('\n', out);
 }
 
-/* The single bytes of a chip in the order of the struct. */
+/* The single bytes at the head of a chip, in the order of the struct. */
 static const char *const fields[] = {
     "part", "select", "ppen", "bl", "rpel", "pel", "counter_high", "counter_low", "mark", "busy", "scl", "line",
     "phase", "bits", "byte", "high", "count",
@@ -82,6 +82,7 @@ void show_chips(FILE *out, const char *const *titles, const struct crep_chip *co
     fputc('\n', out);
     for (i = 0; i < FIELDS; i++)
         show_row(out, fields[i], -1, (size_t)i, chips, n);
+    show_row(out, "spoil", -1, offsetof(struct crep_chip, spoil), chips, n);
     for (i = 0; i < 32; i++)
         if (used((size_t)(FIELDS + i), chips, n))
             show_row(out, "places", i, (size_t)(FIELDS + i), chips, n);

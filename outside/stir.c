@@ -58,6 +58,14 @@ static void stir_load(struct chance *chance, struct crep_chip *chip)
     }
 }
 
+/* Any byte; half of the time FFh, as in a new chip, or one that makes another record of a spoilt sector. */
+static uint8_t stir_spoil(struct chance *chance)
+{
+    static const uint32_t bytes[] = { 0xff, 0xff, 0x00, 0xa5 };
+
+    return flag(chance) ? (uint8_t)ONE_OF(chance, bytes) : chance_byte(chance);
+}
+
 void stir_chip(struct chance *chance, struct crep_chip *chip)
 {
     static const uint32_t counters[] = { 0, 0x1fff, 0x2000, 0x2fff, 0x3000, 0x3fff, 0x3fe0, 31 };
@@ -77,6 +85,7 @@ void stir_chip(struct chance *chance, struct crep_chip *chip)
     chip->line = flag(chance);
     stir_phase(chance, chip);
     stir_load(chance, chip);
+    chip->spoil = stir_spoil(chance);
     /* a STOP that is rightly placed, the busiest rule of all */
     if (chance_once_in(chance, 4)) {
         chip->phase = CREP_PHASE_DATA;
@@ -93,7 +102,7 @@ static uint8_t above(struct chance *chance, uint32_t least)
     return (uint8_t)(flag(chance) ? least : least + chance_below(chance, 256 - least));
 }
 
-void stir_spoil(struct chance *chance, struct crep_chip *chip)
+void stir_out_of_range(struct chance *chance, struct crep_chip *chip)
 {
     uint8_t *flags[] = { &chip->ppen, &chip->rpel, &chip->pel, &chip->mark, &chip->busy, &chip->scl, &chip->line };
 

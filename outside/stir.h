@@ -10,7 +10,7 @@
 void stir_chip(struct chance *chance, struct crep_chip *chip);
 
 /* Puts one field of a chip out of its range. */
-void stir_spoil(struct chance *chance, struct crep_chip *chip);
+void stir_out_of_range(struct chance *chance, struct crep_chip *chip);
 
 /* An array of FFh, of one byte or of random bytes. */
 void stir_array(struct chance *chance, uint8_t *array);

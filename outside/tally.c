@@ -37,5 +37,6 @@ int tally_print(void)
     missing += row("phases", tally.phases, 0, 11);
     missing += row("pulses", tally.pulses, 1, 10);
     missing += row("locked", tally.locked, 0, 1);
+    missing += row("short", tally.short_loads, 0, 2);
     return missing;
 }

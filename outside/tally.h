@@ -12,6 +12,7 @@ struct tally {
     uint64_t phases[12];
     uint64_t pulses[11];
     uint64_t locked[2];         /* records sent to a chip for which they are: its sector not locked, locked */
+    uint64_t short_loads[3];    /* on an X24F128: spoilt with FFh, spoilt with another byte, stopped by a lock */
 };
 
 extern struct tally tally;
@@ -19,7 +20,8 @@ extern struct tally tally;
 /* Prints where the comparison stands, as the head of a report of a difference. */
 void tally_difference(const char *call);
 
-/* Prints the counts. Returns how many notes, refusals, phases, pulse numbers and kinds of sector were never reached. */
+/* Prints the counts. Returns how many notes, refusals, phases, pulse numbers, kinds of sector and ends of a short load
+ * were never reached. */
 int tally_print(void);
 
 #endif

@@ -142,14 +142,16 @@ static unsigned store(struct crep_chip *c, uint8_t *array)
 {
     unsigned base = counter(c) & ~31u, i;
 
-    if (c->part && c->count != 32)
-        return 5;
     if (c->bl && base >= (c->bl == 3 ? 0u : 0x4000u - c->bl * 0x1000u))
         return 4;
-    for (i = 0; i < 32; i++)
-        array[base + i] = c->places[i] ? c->load[i] : array[base + i];
     c->busy = 1;
     c->rpel = 0;
+    if (c->part && c->count != 32) {
+        memset(array + base, c->spoil, 32);
+        return 5;
+    }
+    for (i = 0; i < 32; i++)
+        array[base + i] = c->places[i] ? c->load[i] : array[base + i];
     return 1;
 }
 

@@ -249,7 +249,7 @@ static void sector(unsigned long address)
             printf("%02x", array[first + i]);
 }
 
-/* Fields of a chip that no run reaches; the phase's own bytes are 0. */
+/* Fields of a chip as no run sets them; the phase's own bytes are 0. */
 static void alter(unsigned field, uint8_t n)
 {
     switch (field) {
@@ -260,6 +260,7 @@ static void alter(unsigned field, uint8_t n)
     case 4: chip.phase = n / 16; chip.bits = n % 16; chip.byte = 0; chip.high = 0; break;
     case 5: memset(chip.load, 0, sizeof chip.load); memset(chip.places, 0, sizeof chip.places); chip.count = n; break;
     case 6: chip.busy = n == 1; break;
+    case 7: chip.spoil = n; break;
     }
 }
 

@@ -54,17 +54,17 @@ unfolding chipFits
 fits-so c f = rw (le-leb _ _ (f .part), le-leb _ _ (f .select), le-leb _ _ (f .bl), le-leb _ _ (f .counter), f .phase, le-leb _ _ (f .count))
 
 -- a chip at power-up is in range if its part, select and BL are
-pub up-fits : (part select : ℕ) (ppen : Bool) (bl : ℕ) → part ≤ 1 → select ≤ 7 → bl ≤ 3 → Fits (atPowerUp part select ppen bl)
+pub up-fits : (part select : ℕ) (ppen : Bool) (bl spoil : ℕ) → part ≤ 1 → select ≤ 7 → bl ≤ 3 → Fits (atPowerUp part select ppen bl spoil)
 unfolding phaseFits
-up-fits part select ppen bl p s b = record { part = p; select = s; bl = b; counter = omega arith; phase = refl; count = omega arith }
+up-fits part select ppen bl spoil p s b = record { part = p; select = s; bl = b; counter = omega arith; phase = refl; count = omega arith }
 
 -- a new chip is in range
 pub new-fits : (part select : ℕ) → part ≤ 1 → select ≤ 7 → chipFits (newChip part select) ≡ true
-new-fits part select p s = fits-so (newChip part select) (up-fits part select false 0 p s (omega arith))
+new-fits part select p s = fits-so (newChip part select) (up-fits part select false 0 0xff p s (omega arith))
 
 -- a chip in range is in range after a power-up
 pub power-fits : (c : Chip) → Fits c → Fits (powerUp c)
-power-fits c f = up-fits (c .part) (c .select) (c .register .ppen) (c .register .bl) (f .part) (f .select) (f .bl)
+power-fits c f = up-fits (c .part) (c .select) (c .register .ppen) (c .register .bl) (c .spoil) (f .part) (f .select) (f .bl)
 
 -- whatever part and select are asked for, the chip that is made is in range
 pub made-fits : (part select : ℕ) → chipFits (made part select .chip) ≡ true

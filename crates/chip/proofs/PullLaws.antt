@@ -78,14 +78,14 @@ turned-busy e c xs idle =
     (λ m ys scl line quiet. quiet)
     (λ phase counter mark load note m busy. absurd (false≢true (sym idle ∙ busy)))
     (λ stopped marks busy. refl)
-    (λ stopped storable busy. refl)
+    (λ short load stopped writable busy. refl)
     (λ done busy. absurd (false≢true busy))
     (λ up busy. refl)
 
 -- a chip at power-up pulls nowhere
-pub up-shows : (part select : ℕ) (ppen : Bool) (bl : ℕ) → Shows (atPowerUp part select ppen bl)
+pub up-shows : (part select : ℕ) (ppen : Bool) (bl spoil : ℕ) → Shows (atPowerUp part select ppen bl spoil)
 unfolding phasePulls
-up-shows part select ppen bl pulling = absurd (false≢true pulling)
+up-shows part select ppen bl spoil pulling = absurd (false≢true pulling)
 
 -- an event leaves a chip whose pull is on its line another such
 pub next-shows : (e : Event) (c : Chip) (xs : List ℕ) → Shows c → Shows (next e c xs .chip)

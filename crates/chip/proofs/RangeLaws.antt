@@ -1,21 +1,21 @@
--- From a chip in range every event leads to a chip in range, from bytes to bytes; part and select never change. Assumes nothing.
-use Prim.Native.Nat.{ℕ, _≤_}
-use mathlib.Core.Bool.{true}
+-- From a chip in range every event leads to a chip in range, from bytes to bytes; part, select and spoil byte never change. Assumes nothing.
+use Prim.Native.Nat.{ℕ, _≤_, _<_}
+use mathlib.Core.Bool.{Bool, true, false, cond}
 use mathlib.Core.Path.{_≡_, refl}
 use mathlib.Core.List.{List}
 use native.Mathlib.Omega.{arith}
 use lib.ListN.{getD}
-use Rattle.parts.specs.Load.{noLoad}
+use Rattle.parts.specs.Load.{noLoad, fullOf}
 use Rattle.parts.specs.Phase.{phaseFits}
 use Rattle.parts.specs.Sector.{sectorStart, Bytes}
 use Rattle.parts.specs.declared.phase.Phase.the-variants.{Standby}
-use Rattle.parts.proofs.ByteLaws.{stored-bytes}
+use Rattle.parts.proofs.ByteLaws.{same-bytes, stored-bytes}
 use Rattle.parts.proofs.PhaseLaws.{gotOf}
 use Rattle.parts.proofs.RegisterLaws.{written-bl}
 use Rattle.chip.specs.Chip.{chipFits}
 use Rattle.chip.specs.Event.{next, nextArray}
 use Rattle.chip.specs.Stop.{effectMoved}
-use Rattle.chip.specs.View.{pinHigh}
+use Rattle.chip.specs.View.{pinHigh, SameMake}
 use Rattle.chip.specs.declared.chip.Chip.{Chip}
 use Rattle.chip.specs.declared.wire.Event.{Event}
 use Rattle.chip.proofs.FitLaws.{Within, Fits, fits-of, fits-so, power-fits}
@@ -34,7 +34,7 @@ next-within e c xs f =
     (λ m ys scl line g. g)
     (λ phase counter mark load note m. m .fits f)
     (λ stopped marks. rested-within c _ 0x0000 (written-bl (c .register) (getD (c .load .bytes) 0 0) (pinHigh e) (f .bl)) (omega arith) f)
-    (λ stopped storable. rested-within c (c .register .bl) (c .counter) (f .bl) (f .counter) f)
+    (λ short load stopped writable. rested-within c (c .register .bl) (c .counter) (f .bl) (f .counter) f)
     (λ done. f)
     (λ up. power-fits c f)
 
@@ -42,35 +42,40 @@ next-within e c xs f =
 pub next-fits : (e : Event) (c : Chip) (xs : List ℕ) → chipFits c ≡ true → chipFits (next e c xs .chip) ≡ true
 next-fits e c xs h = fits-so (next e c xs .chip) (next-within e c xs (fits-of c h))
 
--- part and select never change
-pub next-same : (e : Event) (c : Chip) (xs : List ℕ) → (next e c xs .chip .part ≡ c .part) × (next e c xs .chip .select ≡ c .select)
+-- part, select and spoil byte never change
+pub next-same : (e : Event) (c : Chip) (xs : List ℕ) → SameMake c (next e c xs .chip)
 unfolding effectMoved
 next-same e c xs =
-    next-by (λ m ys. (m .chip .part ≡ c .part) × (m .chip .select ≡ c .select)) e c xs
+    next-by (λ m ys. SameMake c (m .chip)) e c xs
     (λ m ys scl line same. same)
-    (λ phase counter mark load note m. (refl, refl))
-    (λ stopped marks. (refl, refl))
-    (λ stopped storable. (refl, refl))
-    (λ done. (refl, refl))
-    (λ up. (refl, refl))
+    (λ phase counter mark load note m. (refl, refl, refl))
+    (λ stopped marks. (refl, refl, refl))
+    (λ short load stopped writable. (refl, refl, refl))
+    (λ done. (refl, refl, refl))
+    (λ up. (refl, refl, refl))
 
--- a chip whose load is of bytes, over an array of bytes
+-- a chip whose load is of bytes and whose spoil byte is one, over an array of bytes
 abbrev pub AllBytes : Chip → List ℕ → Type 0
-AllBytes c xs = OctetsOf c × Bytes xs
+AllBytes c xs = OctetsOf c × Bytes xs × (c .spoil < 0x100)
 
 -- a chip at rest has an empty load
 rested-octets : Octets noLoad Standby
 unfolding gotOf
 rested-octets = none-octets Standby (omega arith)
 
--- whatever is stored came as eight bits: bytes stay bytes
+-- what a cycle stores is of bytes
+cycle-bytes : (c : Chip) (short : Bool) → OctetsOf c → c .spoil < 0x100 → Bytes (cond short (fullOf (c .spoil)) (c .load) .bytes)
+cycle-bytes c true o spoil = same-bytes 32 (c .spoil) spoil
+cycle-bytes c false o spoil = o .loads
+
+-- whatever is stored came as eight bits or is the spoil byte: bytes stay bytes
 pub next-bytes : (e : Event) (c : Chip) (xs : List ℕ) → AllBytes c xs → AllBytes (next e c xs .chip) (nextArray e c xs)
 unfolding effectMoved
 next-bytes e c xs b =
     next-by (λ m ys. AllBytes (m .chip) ys) e c xs
     (λ m ys scl line all. all)
-    (λ phase counter mark load note m. (m .octets (b .0), b .1))
-    (λ stopped marks. (rested-octets, b .1))
-    (λ stopped storable. (rested-octets, stored-bytes 32 xs (sectorStart (c .counter)) (c .load) (b .1) (b .0 .loads)))
+    (λ phase counter mark load note m. (m .octets (b .0), b .1, b .2))
+    (λ stopped marks. (rested-octets, b .1, b .2))
+    (λ short load stopped writable. (rested-octets, stored-bytes 32 xs (sectorStart (c .counter)) _ (b .1) (cycle-bytes c short (b .0) (b .2)), b .2))
     (λ done. b)
-    (λ up. (rested-octets, b .1))
+    (λ up. (rested-octets, b .1, b .2))

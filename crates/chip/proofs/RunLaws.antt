@@ -1,4 +1,4 @@
--- What every event keeps, a row of events keeps: range, length, part and select, and under a high pin PPEN, BL and every locked byte.
+-- What every event keeps, a row of events keeps: range, length, part, select and spoil byte, and under a high pin PPEN, BL and every locked byte.
 -- Assumes nothing.
 use mathlib.Core.Bool.{true}
 use mathlib.Core.Path.{_≡_, refl, _∙_}
@@ -8,7 +8,7 @@ use Rattle.parts.proofs.RowLaws.{stepped-each, stepped-by}
 use Rattle.chip.specs.Chip.{chipFits}
 use Rattle.chip.specs.Event.{next, refusal}
 use Rattle.chip.specs.Run.{World, step, ran}
-use Rattle.chip.specs.View.{pinHigh, pinsHigh, GuardedBy}
+use Rattle.chip.specs.View.{pinHigh, pinsHigh, SameMake, GuardedBy}
 use Rattle.chip.specs.declared.wire.Event.{Event}
 use Rattle.chip.proofs.EventLaws.{next-taken}
 use Rattle.chip.proofs.LockLaws.{locked-kept, guarded-kept}
@@ -28,14 +28,14 @@ ran-length es w =
 pub ran-taken : (es : List Event) (w : World) → refusal (w .chip) (w .array) ≡ 0 → refusal (ran es w .chip) (ran es w .array) ≡ 0
 ran-taken es w h = stepped-by step (λ v. refusal (v .chip) (v .array) ≡ 0) (λ e v. unfold step in next-taken e (v .chip) (v .array)) es w h
 
--- part and select
-pub ran-same : (es : List Event) (w : World) → (ran es w .chip .part ≡ w .chip .part) × (ran es w .chip .select ≡ w .chip .select)
+-- part, select and spoil byte
+pub ran-same : (es : List Event) (w : World) → SameMake (w .chip) (ran es w .chip)
 ran-same es w =
-    stepped-by step (λ v. (v .chip .part ≡ w .chip .part) × (v .chip .select ≡ w .chip .select))
+    stepped-by step (λ v. SameMake (w .chip) (v .chip))
     (λ e v h. unfold step in
     let same = next-same e (v .chip) (v .array) in
-    (same .0 ∙ h .0, same .1 ∙ h .1))
-    es w (refl, refl)
+    (same .0 ∙ h .0, same .1 ∙ h .1, same .2 ∙ h .2))
+    es w (refl, refl, refl)
 
 -- bytes
 pub ran-bytes : (es : List Event) (w : World) → AllBytes (w .chip) (w .array) → AllBytes (ran es w .chip) (ran es w .array)
@@ -53,7 +53,7 @@ guarded-step before e w high g =
       bytes = λ a shut. locked-kept e (w .chip) (w .array) a (rw (g .part, g .bl) shut) ∙ g .bytes a shut;
     }
   where
-    same : (next e (w .chip) (w .array) .chip .part ≡ w .chip .part) × (next e (w .chip) (w .array) .chip .select ≡ w .chip .select)
+    same : SameMake (w .chip) (next e (w .chip) (w .array) .chip)
     same = next-same e (w .chip) (w .array)
 
     keeps : (next e (w .chip) (w .array) .chip .register .ppen ≡ true) × (next e (w .chip) (w .array) .chip .register .bl ≡ w .chip .register .bl)

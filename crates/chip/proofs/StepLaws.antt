@@ -1,4 +1,4 @@
--- The walk of a step: what holds of a move, of a register change, of a store, of a program-done and of a power-up holds of every event. Each rule
+-- The walk of a step: what holds of a move, of a register change, of a cycle of the array, of a program-done and of a power-up holds of every event. Each rule
 -- is followed here and nowhere else; a move brings with it what it keeps of the chip's ranges and bytes, and what its note may be. Assumes nothing.
 use Prim.Native.Nat.{ℕ, zero, suc, _+_, _*_, _%_, _≤_, _<_}
 use mathlib.Core.Bool.{Bool, true, false, cond}
@@ -8,7 +8,7 @@ use native.Mathlib.Omega.{arith}
 use borrow.Author.Tests.{leb-true, le-leb}
 use lib.Dec.{eqb}
 use lib.ListN.{getD}
-use Rattle.parts.specs.Load.{noLoad, loaded, stored}
+use Rattle.parts.specs.Load.{noLoad, fullOf, loaded, stored}
 use Rattle.parts.specs.Phase.{phaseFits, risen}
 use Rattle.parts.specs.Register.{written}
 use Rattle.parts.specs.Sector.{sectorStart, nextPlace, nextAddress, Bytes}
@@ -20,15 +20,14 @@ use Rattle.parts.proofs.CondLaws.{cond-by}
 use Rattle.parts.proofs.LoadLaws.{loaded-most}
 use Rattle.parts.proofs.PhaseLaws.{gotOf, Small, risen-fits, risen-small}
 use Rattle.parts.proofs.SectorLaws.{next-place-fits, next-address-fits}
-use Rattle.chip.specs.Chip.{withTransfer, powerUp, pulls}
+use Rattle.chip.specs.Chip.{withTransfer, powerUp}
 use Rattle.chip.specs.Event.{next, nextArray, sampled, judged, judgedArray, reacted, reactedArray, edgeIn, lineIn, programDone, settled}
-use Rattle.chip.specs.Part.{selects, marked, enabled}
-use Rattle.chip.specs.Stop.{effectMoved, effectArray}
+use Rattle.chip.specs.Part.{selects, marked, enabled, partial}
+use Rattle.chip.specs.Stop.{cycling, effectMoved, effectArray}
 use Rattle.chip.specs.Transfer.{moved, quiet, atPhase, emptyAt, fallIn, slaveTaken, addressed, addressTaken, arrayData, registerData, byteBegun, nextByte, byteEnded, dropNote}
-use Rattle.chip.specs.View.{pinHigh, mute, isStop, stops, Stopped, Storable}
-use Rattle.chip.specs.Wire.{lineOf}
+use Rattle.chip.specs.View.{pinHigh, mute, isStop, stops, Stopped, Writable}
 use Rattle.chip.specs.declared.chip.Chip.{Chip}
-use Rattle.chip.specs.declared.chip.Effect.the-variants.{Change, Store}
+use Rattle.chip.specs.declared.chip.Effect.the-variants.{Change}
 use Rattle.chip.specs.declared.chip.Moved.{Moved}
 use Rattle.chip.specs.declared.wire.Edge.{Edge}
 use Rattle.chip.specs.declared.wire.Edge.the-variants.{Quiet, Start, Stop, Rise, Fall}
@@ -172,46 +171,49 @@ Changes P e c xs =
     Stopped e c → marked (c .part) (c .mark) ≡ true
     → P (effectMoved (Change (written (c .register) (getD (c .load .bytes) 0 0) (pinHigh e))) c) xs
 
--- `P` holds of the store that it makes
-abbrev pub Stores : (Moved → List ℕ → Type 0) → Event → Chip → List ℕ → Type 0
-Stores P e c xs = Stopped e c → Storable c (pinHigh e) → P (effectMoved (Store 1) c) (stored xs (sectorStart (c .counter)) (c .load))
+-- `P` holds of the cycle that it begins: with the load, or, where the load is partial, with the spoil byte in all places
+abbrev pub Cycles : (Moved → List ℕ → Type 0) → Event → Chip → List ℕ → Type 0
+Cycles P e c xs =
+    (short : Bool) → partial (c .part) (c .load .count) ≡ short → Stopped e c → Writable c (pinHigh e)
+    → P (cycling c (cond short 5 1)) (stored xs (sectorStart (c .counter)) (cond short (fullOf (c .spoil)) (c .load)))
 
--- every edge of an idle chip is a move, a register change or a store
+-- every edge of an idle chip is a move, a register change or a cycle
 react-by : (P : Moved → List ℕ → Type 0) (s : Levels) (c : Chip) (xs : List ℕ) (edge : Edge) → c .busy ≡ false → edgeIn c s ≡ edge
-    → Moves (λ m. P m xs) c → Changes P (Sample s) c xs → Stores P (Sample s) c xs
+    → Moves (λ m. P m xs) c → Changes P (Sample s) c xs → Cycles P (Sample s) c xs
     → P (reacted edge c (lineIn c s) (s .pin) xs) (reactedArray edge c (s .pin) xs)
 unfolding reacted reactedArray effectArray phaseFits gotOf mute pinHigh stops isStop
-react-by P s c xs Quiet idle edge move change store = stay (λ m. P m xs) c move
-react-by P s c xs Start idle edge move change store = drop-at (λ m. P m xs) c move (Slave 0 0) (dropNote c) refl (omega arith) (drop-mute c)
-react-by P s c xs Stop idle edge move change store =
+react-by P s c xs Quiet idle edge move change cycle = stay (λ m. P m xs) c move
+react-by P s c xs Start idle edge move change cycle = drop-at (λ m. P m xs) c move (Slave 0 0) (dropNote c) refl (omega arith) (drop-mute c)
+react-by P s c xs Stop idle edge move change cycle =
     stop-by (λ effect. P (effectMoved effect c) (effectArray effect c xs)) c (s .pin)
     (λ note q. unfold effectMoved in drop-at (λ m. P m xs) c move Standby note refl (omega arith) q)
     (λ right some. change (record { idle = idle; stop = ap isStop edge; right = right; some = some }))
-    (λ right some. store (record { idle = idle; stop = ap isStop edge; right = right; some = some }))
-react-by P s c xs Rise idle edge move change store =
+    (λ right some writable whole. unfold effectMoved in cycle false whole (record { idle = idle; stop = ap isStop edge; right = right; some = some }) writable)
+    (λ right some writable short. unfold effectMoved in cycle true short (record { idle = idle; stop = ap isStop edge; right = right; some = some }) writable)
+react-by P s c xs Rise idle edge move change cycle =
     go-to (λ m. P m xs) c move (risen (c .phase) (lineIn c s)) (λ f. risen-fits (c .phase) (lineIn c s) (f .phase)) (λ o. risen-small (c .phase) (lineIn c s) (o .got))
-react-by P s c xs Fall idle edge move change store = fall-by (λ m. P m xs) c move (c .phase) xs refl
+react-by P s c xs Fall idle edge move change cycle = fall-by (λ m. P m xs) c move (c .phase) xs refl
 
 -- a busy chip does not move, an idle one reacts
 judge-by : (P : Moved → List ℕ → Type 0) (s : Levels) (c : Chip) (xs : List ℕ)
-    → Moves (λ m. P m xs) c → Changes P (Sample s) c xs → Stores P (Sample s) c xs
+    → Moves (λ m. P m xs) c → Changes P (Sample s) c xs → Cycles P (Sample s) c xs
     → P (judged c xs (s .scl) (lineIn c s) (s .pin)) (judgedArray c xs (s .scl) (lineIn c s) (s .pin))
 unfolding judged judgedArray
-judge-by P s c xs move change store = go (c .busy) refl
+judge-by P s c xs move change cycle = go (c .busy) refl
   where
     go : (busy : Bool) → c .busy ≡ busy
         → P (cond busy (quiet c) (reacted (edgeIn c s) c (lineIn c s) (s .pin) xs)) (cond busy xs (reactedArray (edgeIn c s) c (s .pin) xs))
     go true b = stay (λ m. P m xs) c move
-    go false b = react-by P s c xs (edgeIn c s) b refl move change store
+    go false b = react-by P s c xs (edgeIn c s) b refl move change cycle
 
 -- every event is a sample, which sets the levels besides, a program-done or a power-up
 pub next-by : (P : Moved → List ℕ → Type 0) (e : Event) (c : Chip) (xs : List ℕ)
     → ((m : Moved) (ys : List ℕ) (scl line : Bool) → P m ys → P (settled m scl line) ys)
-    → Moves (λ m. P m xs) c → Changes P e c xs → Stores P e c xs
+    → Moves (λ m. P m xs) c → Changes P e c xs → Cycles P e c xs
     → (e ≡ ProgramDone → P (quiet (programDone c)) xs) → (e ≡ PowerUp → P (quiet (powerUp c)) xs)
     → P (next e c xs) (nextArray e c xs)
 unfolding next nextArray sampled
-next-by P (Sample s) c xs settle move change store done up =
-    settle (judged c xs (s .scl) (lineIn c s) (s .pin)) (judgedArray c xs (s .scl) (lineIn c s) (s .pin)) (s .scl) _ (judge-by P s c xs move change store)
-next-by P ProgramDone c xs settle move change store done up = done refl
-next-by P PowerUp c xs settle move change store done up = up refl
+next-by P (Sample s) c xs settle move change cycle done up =
+    settle (judged c xs (s .scl) (lineIn c s) (s .pin)) (judgedArray c xs (s .scl) (lineIn c s) (s .pin)) (s .scl) _ (judge-by P s c xs move change cycle)
+next-by P ProgramDone c xs settle move change cycle done up = done refl
+next-by P PowerUp c xs settle move change cycle done up = up refl

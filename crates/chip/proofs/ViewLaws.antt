@@ -1,7 +1,7 @@
 -- The view of an event, and what it says at once: the array keeps its length, a sample that is no stop writes nothing, and what each note means.
 -- Assumes nothing.
 use Prim.Native.Nat.{ℕ, _≤_}
-use mathlib.Core.Bool.{Bool, true, false, _||_, false≢true}
+use mathlib.Core.Bool.{Bool, true, false, cond, _||_, false≢true}
 use mathlib.Core.Path.{_≡_, refl, sym, ap, _∙_}
 use mathlib.Core.List.{List}
 use native.Mathlib.Decide.{ℕ-discrete}
@@ -9,14 +9,16 @@ use native.Mathlib.Omega.{arith}
 use borrow.Author.Tests.{eqb-true}
 use lib.Dec.{eqb}
 use lib.ListN.{length, getD}
+use Rattle.parts.specs.Load.{fullOf}
 use Rattle.parts.specs.declared.register.Register.{Register}
 use Rattle.parts.specs.declared.register.Written.{Written}
 use Rattle.parts.proofs.LoadLaws.{length-stored}
 use Rattle.parts.proofs.RegisterLaws.{Noted, written-noted}
 use Rattle.chip.specs.Event.{next, nextArray}
+use Rattle.chip.specs.Part.{partial}
 use Rattle.chip.specs.Stop.{effectMoved}
-use Rattle.chip.specs.View.{pinHigh, stops, mute, Untouched, Changed, Told, Did, DidBy}
-use Rattle.chip.specs.View.Did.{nothing, finish, clear, change, store}
+use Rattle.chip.specs.View.{pinHigh, stops, mute, Untouched, Changed, Cycled, Told, Did, DidBy}
+use Rattle.chip.specs.View.Did.{nothing, finish, clear, change, store, spoil}
 use Rattle.chip.specs.declared.chip.Chip.{Chip}
 use Rattle.chip.specs.declared.wire.Event.{Event}
 use Rattle.chip.specs.declared.wire.Event.the-variants.{Sample, ProgramDone, PowerUp}
@@ -31,21 +33,25 @@ view e c xs =
     (λ m ys scl line did. did)
     (λ phase counter mark load note m. nothing (record { array = refl; register = refl; same = refl; silent = m .silent }))
     (λ stopped marks. change (record { stopped = stopped; marks = marks; array = refl; wrote = refl }))
-    (λ stopped storable. store (record { stopped = stopped; storable = storable; array = refl; register = refl; began = refl; said = refl }))
+    (λ short load stopped writable. began short load (record { stopped = stopped; writable = writable; array = refl; register = refl; began = refl }))
     (λ event. finish (record { event = event; array = refl; register = refl; ended = refl; silent = refl }))
     (λ event. clear (record { event = event; array = refl; register = refl; ended = refl; silent = refl }))
+  where
+    began : (short : Bool) → partial (c .part) (c .load .count) ≡ short → {after : Register} {busy : Bool} {ys : List ℕ}
+        → Cycled e c xs (cond short (fullOf (c .spoil)) (c .load)) after busy ys → Did e c xs after busy (cond short 5 1) ys
+    began true short cycle = spoil (record { short = short; cycle = cycle; said = refl })
+    began false whole cycle = store (record { whole = whole; cycle = cycle; said = refl })
 
 -- a note that says nothing of a write is at most 7
 mute-most : (note : ℕ) → mute note ≡ true → note ≤ 7
 unfolding mute
-mute-most note h = go (eqb note 0) (eqb note 4) (eqb note 5) (eqb note 7) refl refl refl refl h
+mute-most note h = go (eqb note 0) (eqb note 4) (eqb note 7) refl refl refl h
   where
-    go : (a b c d : Bool) → eqb note 0 ≡ a → eqb note 4 ≡ b → eqb note 5 ≡ c → eqb note 7 ≡ d → (a || b || c || d) ≡ true → note ≤ 7
-    go true b c d e f g i h = omega (arith, eqb-true note 0 e)
-    go false true c d e f g i h = omega (arith, eqb-true note 4 f)
-    go false false true d e f g i h = omega (arith, eqb-true note 5 g)
-    go false false false true e f g i h = omega (arith, eqb-true note 7 i)
-    go false false false false e f g i h = absurd (false≢true h)
+    go : (a b c : Bool) → eqb note 0 ≡ a → eqb note 4 ≡ b → eqb note 7 ≡ c → (a || b || c) ≡ true → note ≤ 7
+    go true b c e f g h = omega (arith, eqb-true note 0 e)
+    go false true c e f g h = omega (arith, eqb-true note 4 f)
+    go false false true e f g h = omega (arith, eqb-true note 7 g)
+    go false false false e f g h = absurd (false≢true h)
 
 -- and so is a register byte's
 noted-most : {r : Register} {w : Written} → Noted r w → w .note ≤ 7
@@ -69,7 +75,8 @@ module _ {e : Event} {c : Chip} {xs : List ℕ} {after : Register} {busy : Bool}
   did-length (finish d) = ap length (d .array)
   did-length (clear d) = ap length (d .array)
   did-length (change d) = ap length (d .array)
-  did-length (store d) = ap length (d .array) ∙ length-stored xs _ (c .load)
+  did-length (store d) = ap length (d .cycle .array) ∙ length-stored xs _ (c .load)
+  did-length (spoil d) = ap length (d .cycle .array) ∙ length-stored xs _ (fullOf (c .spoil))
 
   -- what a changed register's note says
   changed-noted : Changed e c xs after busy note ys → Noted (c .register) (record { register = after; busy = busy; note = note })
@@ -77,7 +84,14 @@ module _ {e : Event} {c : Chip} {xs : List ℕ} {after : Register} {busy : Bool}
 
   -- note 0 says none of these
   silent : note ≡ 0 → Told e c xs after busy note ys
-  silent n = record { one = λ m. absurd (omega arith); two = λ m. absurd (omega arith); three = λ m. absurd (omega arith); more = λ m. absurd (omega arith) }
+  silent n =
+      record {
+        one = λ m. absurd (omega arith);
+        two = λ m. absurd (omega arith);
+        three = λ m. absurd (omega arith);
+        five = λ m. absurd (omega arith);
+        more = λ m. absurd (omega arith);
+      }
 
   -- what a note says
   did-told : Did e c xs after busy note ys → Told e c xs after busy note ys
@@ -87,7 +101,8 @@ module _ {e : Event} {c : Chip} {xs : List ℕ} {after : Register} {busy : Bool}
         one = λ n. absurd (false≢true (rw n at (d .silent)));
         two = λ n. absurd (false≢true (rw n at (d .silent)));
         three = λ n. absurd (false≢true (rw n at (d .silent)));
-        more = λ n. record { array = d .array; register = d .register; same = d .same };
+        five = λ n. absurd (false≢true (rw n at (d .silent)));
+        more = λ n other. record { array = d .array; register = d .register; same = d .same };
       }
   did-told (finish d) = silent (d .silent)
   did-told (clear d) = silent (d .silent)
@@ -97,12 +112,27 @@ module _ {e : Event} {c : Chip} {xs : List ℕ} {after : Register} {busy : Bool}
         one = λ n. absurd (omega (arith, noted .only (λ two. omega arith) (λ three. omega arith)));
         two = λ n. (d, noted .two n .0, noted .two n .1, noted .two n .2);
         three = λ n. (d, noted .three n .0, noted .three n .1, noted .three n .2);
-        more = λ n.
+        five = λ n. absurd (omega (arith, noted .only (λ two. omega arith) (λ three. omega arith)));
+        more = λ n other.
             let six : note ≡ 6 = noted .only (λ two. omega arith) (λ three. omega arith) in
             record { array = d .array; register = noted .six six .0; same = noted .six six .1 ∙ sym (d .stopped .idle) };
       }
   did-told (store d) =
-      record { one = λ n. d; two = λ n. absurd (omega (arith, d .said)); three = λ n. absurd (omega (arith, d .said)); more = λ n. absurd (omega (arith, d .said)) }
+      record {
+        one = λ n. d;
+        two = λ n. absurd (omega (arith, d .said));
+        three = λ n. absurd (omega (arith, d .said));
+        five = λ n. absurd (omega (arith, d .said));
+        more = λ n. absurd (omega (arith, d .said));
+      }
+  did-told (spoil d) =
+      record {
+        one = λ n. absurd (omega (arith, d .said));
+        two = λ n. absurd (omega (arith, d .said));
+        three = λ n. absurd (omega (arith, d .said));
+        five = λ n. d;
+        more = λ n other. absurd (other (d .said));
+      }
 
   -- what the view says of a sample that is no stop
   did-unstopped : (s : Levels) → e ≡ Sample s → stops e c ≡ false → Did e c xs after busy note ys → Untouched c xs after busy ys
@@ -111,7 +141,8 @@ module _ {e : Event} {c : Chip} {xs : List ℕ} {after : Register} {busy : Bool}
   did-unstopped s here other (finish d) = absurd (false≢true (sym (ap isSample (d .event)) ∙ ap isSample here))
   did-unstopped s here other (clear d) = absurd (false≢true (sym (ap isSample (d .event)) ∙ ap isSample here))
   did-unstopped s here other (change d) = absurd (false≢true (sym other ∙ d .stopped .stop))
-  did-unstopped s here other (store d) = absurd (false≢true (sym other ∙ d .stopped .stop))
+  did-unstopped s here other (store d) = absurd (false≢true (sym other ∙ d .cycle .stopped .stop))
+  did-unstopped s here other (spoil d) = absurd (false≢true (sym other ∙ d .cycle .stopped .stop))
 
   -- no note is above 7
   did-note : Did e c xs after busy note ys → note ≤ 7
@@ -120,6 +151,7 @@ module _ {e : Event} {c : Chip} {xs : List ℕ} {after : Register} {busy : Bool}
   did-note (clear d) = omega (arith, d .silent)
   did-note (change d) = noted-most (changed-noted d)
   did-note (store d) = omega (arith, d .said)
+  did-note (spoil d) = omega (arith, d .said)
 
 -- an event keeps the array's length
 pub next-length : (e : Event) (c : Chip) (xs : List ℕ) → length (nextArray e c xs) ≡ length xs

@@ -1,10 +1,11 @@
--- The chip: its fields set group by group, the ranges of its numbers, its pull, and how it is made. (RULES C1-C14, F2, F3, L1, U4.)
+-- The chip: its fields set group by group, the ranges of its numbers, its pull, and how it is made. (RULES C1-C15, F2, F3, L1, U4.)
 --
 -- | Name | Meaning |
 -- |---|---|
 -- | `withTransfer c phase counter mark load` | the chip elsewhere in its transfer |
 -- | `withCycle c register busy` | the chip with another register and busy flag |
 -- | `withLevels c scl line` | the chip with other last levels |
+-- | `withSpoil c spoil` | the chip with another spoil byte |
 -- | `chipFits` | every number is in its range: else refusal 2 |
 -- | `pulls` | the chip pulls the line |
 -- | `atPowerUp` | a chip as power-up leaves it |
@@ -36,6 +37,7 @@ withTransfer c phase counter mark load =
       line = c .line;
       phase = phase;
       load = load;
+      spoil = c .spoil;
     }
 
 -- C2, C5: what a cycle changes
@@ -52,6 +54,7 @@ withCycle c register busy =
       line = c .line;
       phase = c .phase;
       load = c .load;
+      spoil = c .spoil;
     }
 
 -- C6: what a sample leaves in every case
@@ -68,6 +71,24 @@ withLevels c scl line =
       line = line;
       phase = c .phase;
       load = c .load;
+      spoil = c .spoil;
+    }
+
+-- C15: what nobody but its owner changes
+abbrev pub withSpoil : Chip → ℕ → Chip
+withSpoil c spoil =
+    record {
+      part = c .part;
+      select = c .select;
+      register = c .register;
+      counter = c .counter;
+      mark = c .mark;
+      busy = c .busy;
+      scl = c .scl;
+      line = c .line;
+      phase = c .phase;
+      load = c .load;
+      spoil = spoil;
     }
 
 -- C1-C3, C7-C9, F2: part 0-1, select 0-7, BL 0-3, counter 0-3FFFh, the phase's own where it carries them (reading), count 0-33
@@ -84,10 +105,10 @@ chipFits c =
 unfoldable pub pulls : Chip → Bool
 pulls c = not (c .busy) && phasePulls (c .phase)
 
--- U4, U5: PPEN and BL outlive the supply; all else is cleared, with SCL low and the line high as the last levels; a cycle in progress counts as
+-- U4, U5: PPEN, BL and the spoil byte outlive the supply; all else is cleared, with SCL low and the line high as the last levels; a cycle in progress counts as
 -- finished (house)
-abbrev pub atPowerUp : ℕ → ℕ → Bool → ℕ → Chip
-atPowerUp part select ppen bl =
+abbrev pub atPowerUp : ℕ → ℕ → Bool → ℕ → ℕ → Chip
+atPowerUp part select ppen bl spoil =
     record {
       part = part;
       select = select;
@@ -99,15 +120,16 @@ atPowerUp part select ppen bl =
       line = true;
       phase = Standby;
       load = noLoad;
+      spoil = spoil;
     }
 
 -- the same chip after a power-up
 abbrev pub powerUp : Chip → Chip
-powerUp c = atPowerUp (c .part) (c .select) (c .register .ppen) (c .register .bl)
+powerUp c = atPowerUp (c .part) (c .select) (c .register .ppen) (c .register .bl) (c .spoil)
 
--- C13: PPEN clear, BL 0
+-- C13, C15: PPEN clear, BL 0, spoil byte FFh
 abbrev pub newChip : ℕ → ℕ → Chip
-newChip part select = atPowerUp part select false 0
+newChip part select = atPowerUp part select false 0 0xff
 
 -- C14: an X24F128, select 0
 abbrev pub standardChip : Chip

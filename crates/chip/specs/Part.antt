@@ -6,7 +6,7 @@
 -- | `selects part address` | the address is the register's (RULES T10) |
 -- | `marked part mark` | the register is selected, and not the array (C4) |
 -- | `enabled part pel` | data for the array is taken (T12, T13) |
--- | `partial part count` | a load of this many bytes is not stored (S7) |
+-- | `partial part count` | a load of this many bytes spoils its sector (S7) |
 use Prim.Native.Nat.{ℕ}
 use mathlib.Core.Bool.{Bool, not, _&&_}
 use lib.Dec.{eqb}
@@ -21,6 +21,6 @@ marked part mark = mark
 abbrev pub enabled : ℕ → Bool → Bool
 enabled part pel = pel
 
--- the X24F128 stores whole sectors alone
+-- the X24F128 takes whole sectors alone
 abbrev pub partial : ℕ → ℕ → Bool
 partial part count = eqb part 1 && not (eqb count 32)

@@ -1,4 +1,4 @@
--- What a STOP does to a chip that is not busy, by one of three effects. (RULES S1, S3-S12, N1, N4, N5.)
+-- What a STOP does to a chip that is not busy, by one of four effects. (RULES S1, S3-S12, S16, S18, N1, N4, N5.)
 --
 -- | Name | Meaning |
 -- |---|---|
@@ -7,13 +7,14 @@
 -- | `rightEffect` | what a rightly placed stop does |
 -- | `stopEffect` | what any stop does |
 -- | `rested` | the chip in standby with an empty load |
+-- | `cycling` | the same, busy with a cycle of the array, and its note |
 -- | `effectMoved`, `effectArray` | the chip and its note, and the array, after an effect |
 use Prim.Native.Nat.{ℕ}
 use mathlib.Core.Bool.{Bool, true, false, cond}
 use mathlib.Core.List.{List}
 use lib.Dec.{eqb}
 use lib.ListN.{getD}
-use Rattle.parts.specs.Load.{noLoad, stored}
+use Rattle.parts.specs.Load.{noLoad, fullOf, stored}
 use Rattle.parts.specs.Locks.{locked}
 use Rattle.parts.specs.Register.{written, withRpel}
 use Rattle.parts.specs.Sector.{sectorStart}
@@ -25,7 +26,7 @@ use Rattle.chip.specs.Part.{marked, partial}
 use Rattle.chip.specs.Transfer.{moved, emptyAt, dropNote}
 use Rattle.chip.specs.declared.chip.Chip.{Chip}
 use Rattle.chip.specs.declared.chip.Effect.{Effect}
-use Rattle.chip.specs.declared.chip.Effect.the-variants.{Nothing, Change, Store}
+use Rattle.chip.specs.declared.chip.Effect.the-variants.{Nothing, Change, Store, Spoil}
 use Rattle.chip.specs.declared.chip.Moved.{Moved}
 
 -- S3: the clock rose once after the last acknowledge: one bit of a data byte has come, whatever the bit (reading)
@@ -43,12 +44,12 @@ rightly (Sending bit byte) = false
 rightly Waiting = false
 rightly Next = false
 
--- S7-S9, N1, N4, N5: 1. a partial load on an X24F128, note 5 (reading: any 32 bytes are whole, wherever in the sector they began); 2. a locked sector, note 4; 3. the store, note 1
+-- S8, S7, S9, in this order: 1. the sector is locked: note 4; 2. a partial load on an X24F128 (reading: any 32 bytes are whole, wherever in the sector they began); 3. any other
 unfoldable pub arrayEffect : Chip → Bool → Effect
 arrayEffect c pin =
-    cond (partial (c .part) (c .load .count)) (Nothing 5)
-    (cond (locked (c .part) (c .register .bl) pin (sectorStart (c .counter))) (Nothing 4)
-    (Store 1))
+    cond (locked (c .part) (c .register .bl) pin (sectorStart (c .counter))) (Nothing 4)
+    (cond (partial (c .part) (c .load .count)) Spoil
+    Store)
 
 -- S5, S6, S12, N0: with no data byte nothing; with the mark a register byte, which is the load's place 0 (reading); else an array load
 unfoldable pub rightEffect : Chip → Bool → Effect
@@ -65,14 +66,20 @@ stopEffect c pin = cond (rightly (c .phase)) (rightEffect c pin) (Nothing (dropN
 abbrev pub rested : Chip → Register → ℕ → Bool → Bool → Chip
 rested c register counter mark busy = withTransfer (withCycle c register busy) Standby counter mark noLoad
 
--- S9, S11, S12, S16: a register byte clears counter and mark; a store clears RPEL and begins a cycle
+-- S7, S9, S11: a cycle of the array clears RPEL
+abbrev pub cycling : Chip → ℕ → Moved
+cycling c note = moved (rested c (withRpel (c .register) false) (c .counter) (c .mark) true) note
+
+-- S12, S16, N1, N5: a register byte clears counter and mark; a store and a spoil begin a cycle
 unfoldable pub effectMoved : Effect → Chip → Moved
 effectMoved (Nothing note) c = moved (emptyAt c Standby) note
 effectMoved (Change w) c = moved (rested c (w .register) 0x0000 false (w .busy)) (w .note)
-effectMoved (Store note) c = moved (rested c (withRpel (c .register) false) (c .counter) (c .mark) true) note
+effectMoved Store c = cycling c 1
+effectMoved Spoil c = cycling c 5
 
--- S9, S10: only a store writes, at the STOP (reading), and only in the counter's sector
+-- S7, S9, S10, S18: only these two write, at the STOP (reading), and only in the counter's sector: the loaded places, or all 32 the spoil byte
 unfoldable pub effectArray : Effect → Chip → List ℕ → List ℕ
 effectArray (Nothing note) c xs = xs
 effectArray (Change w) c xs = xs
-effectArray (Store note) c xs = stored xs (sectorStart (c .counter)) (c .load)
+effectArray Store c xs = stored xs (sectorStart (c .counter)) (c .load)
+effectArray Spoil c xs = stored xs (sectorStart (c .counter)) (fullOf (c .spoil))

@@ -4,13 +4,15 @@
 -- |---|---|
 -- | `pinHigh`, `pinsHigh` | the protect pin high in an event, and in each of a row |
 -- | `isStop`, `stops e c` | the edge is a STOP; the chip sees one in this event |
--- | `mute` | a note that says nothing of a write: 0, 4, 5, 7 |
+-- | `mute` | a note that says nothing of a write: 0, 4, 7 |
 -- | `Stopped` | an idle chip that sees a rightly placed STOP with a load |
--- | `Storable` | a load that such a STOP stores |
--- | `Kept`, `Done`, `Cleared`, `Changed`, `Stored` | what an event did, by what it left |
--- | `Did`, `DidBy` | the view of an event: one of the five |
+-- | `Writable` | the sector of the counter is the array's and not locked |
+-- | `Cycled` | a cycle that begins with a load for this sector |
+-- | `Kept`, `Done`, `Cleared`, `Changed`, `Stored`, `Spoilt` | what an event did, by what it left |
+-- | `Did`, `DidBy` | the view of an event: one of the six |
 -- | `Untouched` | no byte written, the register and the busy flag as they were |
 -- | `Told` | what each note says |
+-- | `SameMake` | part, select and spoil byte are as before |
 -- | `Guarded`, `GuardedBy` | part, select, PPEN, BL and the locked bytes are as before |
 -- | `Touched` | what an event that changed a byte says of it |
 -- | `SeesStart` | a chip that has just seen a START |
@@ -21,12 +23,13 @@ use mathlib.Core.Path.{_≡_}
 use mathlib.Core.List.{List}
 use lib.Dec.{eqb}
 use lib.ListN.{getD}
-use Rattle.parts.specs.Load.{noLoad, stored}
+use Rattle.parts.specs.Load.{noLoad, fullOf, stored}
 use Rattle.parts.specs.Locks.{locked}
 use Rattle.parts.specs.Phase.{phasePulls}
 use Rattle.parts.specs.Register.{written, writtenAs, withPel, withRpel}
 use Rattle.parts.specs.Rows.{every}
 use Rattle.parts.specs.Sector.{sectorStart}
+use Rattle.parts.specs.declared.load.Load.{Load}
 use Rattle.parts.specs.declared.phase.Phase.the-variants.{Slave}
 use Rattle.parts.specs.declared.register.Register.{Register}
 use Rattle.chip.specs.Event.{next, nextArray, edgeIn}
@@ -63,9 +66,9 @@ stops (Sample s) c = isStop (edgeIn c s)
 stops ProgramDone c = false
 stops PowerUp c = false
 
--- 6 belongs to a register byte; 1, 2 and 3 say that something was written
+-- 6 belongs to a register byte; 1, 2, 3 and 5 say that something was written
 unfoldable pub mute : ℕ → Bool
-mute note = eqb note 0 || eqb note 4 || eqb note 5 || eqb note 7
+mute note = eqb note 0 || eqb note 4 || eqb note 7
 
 -- where alone something can be written
 pub record Stopped (e : Event) (c : Chip) : Type 0 where
@@ -74,10 +77,9 @@ pub record Stopped (e : Event) (c : Chip) : Type 0 where
   pub right : rightly (c .phase) ≡ true
   pub some : c .load .count ≡ 0 → ⊥
 
--- no register byte, no partial load, no lock
-pub record Storable (c : Chip) (pin : Bool) : Type 0 where
+-- no register byte, no lock
+pub record Writable (c : Chip) (pin : Bool) : Type 0 where
   pub unmarked : marked (c .part) (c .mark) ≡ false
-  pub whole : partial (c .part) (c .load .count) ≡ false
   pub unlocked : locked (c .part) (c .register .bl) pin (sectorStart (c .counter)) ≡ false
 
 -- Most events write nothing: register and busy flag stay, and the note says so
@@ -110,14 +112,25 @@ pub record Changed (e : Event) (c : Chip) (xs : List ℕ) (after : Register) (bu
   pub array : ys ≡ xs
   pub wrote : writtenAs after busy note ≡ written (c .register) (getD (c .load .bytes) 0 0) (pinHigh e)
 
--- a store: the loaded places of the counter's sector take their bytes, which no lock forbids, and a cycle begins with note 1
-pub record Stored (e : Event) (c : Chip) (xs : List ℕ) (after : Register) (busy : Bool) (note : ℕ) (ys : List ℕ) : Type 0 where
+-- a cycle: a load is stored in the counter's sector, which no lock forbids; the chip is busy, with RPEL 0
+pub record Cycled (e : Event) (c : Chip) (xs : List ℕ) (load : Load) (after : Register) (busy : Bool) (ys : List ℕ) : Type 0 where
   pub stopped : Stopped e c
-  pub storable : Storable c (pinHigh e)
-  pub array : ys ≡ stored xs (sectorStart (c .counter)) (c .load)
+  pub writable : Writable c (pinHigh e)
+  pub array : ys ≡ stored xs (sectorStart (c .counter)) load
   pub register : after ≡ withRpel (c .register) false
   pub began : busy ≡ true
+
+-- a store: the loaded places of the sector take their bytes, note 1
+pub record Stored (e : Event) (c : Chip) (xs : List ℕ) (after : Register) (busy : Bool) (note : ℕ) (ys : List ℕ) : Type 0 where
+  pub whole : partial (c .part) (c .load .count) ≡ false
+  pub cycle : Cycled e c xs (c .load) after busy ys
   pub said : note ≡ 1
+
+-- a spoil: all 32 places of the sector take the spoil byte, note 5
+pub record Spoilt (e : Event) (c : Chip) (xs : List ℕ) (after : Register) (busy : Bool) (note : ℕ) (ys : List ℕ) : Type 0 where
+  pub short : partial (c .part) (c .load .count) ≡ true
+  pub cycle : Cycled e c xs (fullOf (c .spoil)) after busy ys
+  pub said : note ≡ 5
 
 -- nothing else is ever written
 pub data Did (e : Event) (c : Chip) (xs : List ℕ) (after : Register) (busy : Bool) (note : ℕ) (ys : List ℕ) : Type 0 where
@@ -126,6 +139,7 @@ pub data Did (e : Event) (c : Chip) (xs : List ℕ) (after : Register) (busy : B
   clear : Cleared e c xs after busy note ys → Did e c xs after busy note ys
   change : Changed e c xs after busy note ys → Did e c xs after busy note ys
   store : Stored e c xs after busy note ys → Did e c xs after busy note ys
+  spoil : Spoilt e c xs after busy note ys → Did e c xs after busy note ys
 
 -- what this event did to this chip and array
 abbrev pub DidBy : Event → Chip → List ℕ → Type 0
@@ -137,12 +151,17 @@ pub record Untouched (c : Chip) (xs : List ℕ) (after : Register) (busy : Bool)
   pub register : after ≡ c .register
   pub same : busy ≡ c .busy
 
--- What each note says: 1 a store, 2 PPEN and BL written by a cycle, which PEL survives, 3 a latch written, 4 to 7 that nothing was
+-- What each note says: 1 a store, 2 PPEN and BL written by a cycle, which PEL survives, 3 a latch written, 5 a spoil; 4, 6 and 7 that nothing was
 pub record Told (e : Event) (c : Chip) (xs : List ℕ) (after : Register) (busy : Bool) (note : ℕ) (ys : List ℕ) : Type 0 where
   pub one : note ≡ 1 → Stored e c xs after busy note ys
   pub two : note ≡ 2 → Changed e c xs after busy note ys × (after .rpel ≡ false) × (after .pel ≡ c .register .pel) × (busy ≡ true)
   pub three : note ≡ 3 → Changed e c xs after busy note ys × (after .ppen ≡ c .register .ppen) × (after .bl ≡ c .register .bl) × (busy ≡ false)
-  pub more : 4 ≤ note → Untouched c xs after busy ys
+  pub five : note ≡ 5 → Spoilt e c xs after busy note ys
+  pub more : 4 ≤ note → (note ≡ 5 → ⊥) → Untouched c xs after busy ys
+
+-- what no event changes
+abbrev pub SameMake : Chip → Chip → Type 0
+SameMake before after = (after .part ≡ before .part) × (after .select ≡ before .select) × (after .spoil ≡ before .spoil)
 
 -- What a row of events with the pin high leaves of a chip with PPEN set: part, select, PPEN, BL and every locked byte
 pub record Guarded (before : World) (part′ select′ : ℕ) (after : Register) (ys : List ℕ) : Type 0 where
@@ -156,12 +175,11 @@ pub record Guarded (before : World) (part′ select′ : ℕ) (after : Register)
 abbrev pub GuardedBy : World → World → Type 0
 GuardedBy before w = Guarded before (w .chip .part) (w .chip .select) (w .chip .register) (w .array)
 
--- What an event that changed a byte says of it: note 1, and the byte of a loaded place of the counter's sector
-pub record Touched (c : Chip) (a : ℕ) (note byte : ℕ) : Type 0 where
-  pub said : note ≡ 1
-  pub here : sectorStart a ≡ sectorStart (c .counter)
-  pub loaded : getD (c .load .places) (a % 32) false ≡ true
-  pub took : byte ≡ getD (c .load .bytes) (a % 32) 0
+-- What an event that changed a byte says of it. It is a byte of the counter's sector: of a loaded place, with note 1, or of any, with note 5
+pub data Touched (c : Chip) (a : ℕ) (note byte : ℕ) : Type 0 where
+  loaded : note ≡ 1 → sectorStart a ≡ sectorStart (c .counter) → getD (c .load .places) (a % 32) false ≡ true
+      → byte ≡ getD (c .load .bytes) (a % 32) 0 → Touched c a note byte
+  spoilt : note ≡ 5 → sectorStart a ≡ sectorStart (c .counter) → byte ≡ c .spoil → Touched c a note byte
 
 -- A chip that has just seen a START: no load, a slave byte to come, the clock still high and the line pulled
 pub record SeesStart (c : Chip) : Type 0 where

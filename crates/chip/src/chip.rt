@@ -1,6 +1,6 @@
 // The chip: what it carries, how it is made, and whether it pulls. Every method answers for every chip, in range or not.
 ghost use mathlib.Core.Path.{_≡_};
-ghost use Rattle.chip.specs.Chip.{chipFits, pulls, atPowerUp, standardChip, made};
+ghost use Rattle.chip.specs.Chip.{chipFits, pulls, withSpoil, atPowerUp, standardChip, made};
 ghost use Rattle.chip.specs.Part.{marked, enabled};
 ghost use Rattle.chip.specs.Transfer.{atPhase, emptyAt, dropNote, quiet};
 use parts::load::Load;
@@ -29,6 +29,8 @@ pub struct Chip {
     pub phase: Phase,
     // what came in for a sector since the address
     pub load: Load,
+    // what a load that the part does not take leaves in its sector, any byte
+    pub spoil: u8,
 }
 
 // What a new chip answers.
@@ -47,14 +49,15 @@ pub struct Moved {
 pub enum Effect {
     Nothing { note: u8 },
     Change(Written),
-    Store { note: u8 },
+    Store,
+    Spoil,
 }
 
 impl Chip {
     // the part that stores a load of any length
     pub const X24128: u8 = 0;
 
-    // the part that stores 32 bytes or none
+    // the part that takes 32 bytes; any other number of them spoils the sector
     pub const X24F128: u8 = 1;
 
     // bytes of the array
@@ -66,9 +69,12 @@ impl Chip {
     // sectors of the array
     pub const SECTORS: usize = 512;
 
+    // the spoil byte of a new chip
+    pub const SPOIL: u8 = 0xff;
+
     // A chip as power-up leaves it.
-    pub(crate) fn at_power_up(part: u8, select: u8, ppen: bool, bl: u8) -> Chip
-        ensures { λ r. ⌜ r ≡ atPowerUp part select ppen bl ⌝ }
+    pub(crate) fn at_power_up(part: u8, select: u8, ppen: bool, bl: u8, spoil: u8) -> Chip
+        ensures { λ r. ⌜ r ≡ atPowerUp part select ppen bl spoil ⌝ }
     {
         let load = Load::none();
         Chip {
@@ -87,6 +93,7 @@ impl Chip {
             line: true,
             phase: Phase::Standby,
             load: load,
+            spoil: spoil,
         }
     }
 
@@ -94,7 +101,7 @@ impl Chip {
     pub fn standard() -> Chip
         ensures { λ r. ⌜ r ≡ standardChip ⌝ }
     {
-        Chip::at_power_up(Chip::X24F128, 0, false, 0)
+        Chip::at_power_up(Chip::X24F128, 0, false, 0, Chip::SPOIL)
     }
 
     // What is answered for a part or a select that does not exist.
@@ -114,10 +121,20 @@ impl Chip {
         if (part <= 1) & (select <= 7) {
             return Made {
                 refusal: 0,
-                chip: Chip::at_power_up(part, select, false, 0),
+                chip: Chip::at_power_up(part, select, false, 0, Chip::SPOIL),
             };
         }
         Chip::not_made()
+    }
+
+    // The chip with another spoil byte.
+    pub fn with_spoil(self, byte: u8) -> Chip
+        ensures { λ r. ⌜ r ≡ withSpoil self byte ⌝ }
+    {
+        Chip {
+            spoil: byte,
+            ..self
+        }
     }
 
     // Whether each number that the chip carries is in its range.

@@ -81,6 +81,7 @@ impl Chip {
                 self.select,
                 self.register.ppen,
                 self.register.bl,
+                self.spoil,
             )),
         }
     }

@@ -1,7 +1,9 @@
-// What a stop does: nothing, a register byte written, or a load stored in its sector.
+// What a stop does: nothing, a register byte written, a load stored in its sector, or the sector spoilt.
 ghost use mathlib.Core.Path.{_≡_};
+ghost use Rattle.parts.specs.Load.{stored};
+ghost use Rattle.parts.specs.Sector.{sectorStart};
 ghost use Rattle.chip.specs.Part.{partial};
-ghost use Rattle.chip.specs.Stop.{rightly, arrayEffect, rightEffect, stopEffect, effectMoved, effectArray};
+ghost use Rattle.chip.specs.Stop.{rightly, arrayEffect, rightEffect, stopEffect, cycling, effectMoved, effectArray};
 use crate::chip::Chip;
 use crate::chip::Effect;
 use crate::chip::Moved;
@@ -36,7 +38,7 @@ fn rightly_placed(phase: Phase) -> bool
 }
 
 impl Chip {
-    // Whether a load of this many bytes is one that the part does not store.
+    // Whether a load of this many bytes is one that the part does not take.
     fn partial(self) -> bool
         ensures { λ r. ⌜ r ≡ partial (self .part) (self .load .count) ⌝ }
     {
@@ -48,14 +50,16 @@ impl Chip {
     fn array_effect(self, pin: bool) -> Effect
         ensures { λ r. ⌜ r ≡ arrayEffect self pin ⌝ }
     {
-        if self.partial() {
-            return Effect::Nothing { note: 5 };
-        }
         let start = sector_start(self.counter);
-        if is_locked(self.part, self.register.bl, pin, start) {
+        let shut = is_locked(self.part, self.register.bl, pin, start);
+        let short = self.partial();
+        if shut {
             return Effect::Nothing { note: 4 };
         }
-        Effect::Store { note: 1 }
+        if short {
+            return Effect::Spoil;
+        }
+        Effect::Store
     }
 
     // What a rightly placed stop does.
@@ -86,6 +90,29 @@ impl Chip {
         Effect::Nothing { note: note }
     }
 
+    // A cycle of the array: a load is stored in the counter's sector, RPEL is cleared, and the chip rests busy.
+    fn cycle(self, array: &mut [u8], load: Load, note: u8) -> Moved
+        ensures { λ r. ⌜ (r ≡ cycling self note) × (now (array .exit) ≡ stored (now (array .entry)) (sectorStart (self .counter)) load) ⌝ }
+    {
+        let start = sector_start(self.counter) as usize;
+        load.store(array, start);
+        let none = Load::none();
+        let register = Register {
+            rpel: false,
+            ..self.register
+        };
+        Moved {
+            chip: Chip {
+                register: register,
+                busy: true,
+                phase: Phase::Standby,
+                load: none,
+                ..self
+            },
+            note: note,
+        }
+    }
+
     // A stop: standby, the load empty, and what the stop does to register and array.
     pub(crate) fn stop(self, array: &mut [u8], pin: bool) -> Moved
         ensures { λ r. ⌜ (r ≡ effectMoved (stopEffect self pin) self) × (now (array .exit) ≡ effectArray (stopEffect self pin) self (now (array .entry))) ⌝ }
@@ -112,26 +139,8 @@ impl Chip {
                     note: written.note,
                 }
             }
-            Effect::Store { note } => {
-                let start = sector_start(self.counter) as usize;
-                let load = self.load;
-                load.store(array, start);
-                let none = Load::none();
-                let register = Register {
-                    rpel: false,
-                    ..self.register
-                };
-                Moved {
-                    chip: Chip {
-                        register: register,
-                        busy: true,
-                        phase: Phase::Standby,
-                        load: none,
-                        ..self
-                    },
-                    note: note,
-                }
-            }
+            Effect::Store => self.cycle(array, self.load, 1),
+            Effect::Spoil => self.cycle(array, Load::full(self.spoil), 5),
         }
     }
 }

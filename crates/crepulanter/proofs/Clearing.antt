@@ -7,7 +7,7 @@ use mathlib.Core.List.{List, [], _∷_, _++_, map}
 use native.Mathlib.Omega.{arith}
 use borrow.Author.Tests.{leb-true}
 use lib.Dec.{leb}
-use lib.ListN.{length, getD, take, drop}
+use lib.ListN.{length, getD, drop}
 use lib.Seq.{take-all}
 use Rattle.parts.proofs.CondLaws.{and-left, and-right}
 use Rattle.chip.specs.declared.chip.Chip.{Chip}
@@ -71,7 +71,8 @@ row-back b fits low =
     let below : (getD b at.counterHigh 0 * 256 + getD b at.counterLow 0) % 256 ≡ getD b at.counterLow 0 = omega arith in
     λ i.
     getD b at.part 0 ∷ getD b at.select 0 ∷ getD (head i) 0 0 ∷ getD b at.bl 0 ∷ getD (head i) 1 0 ∷ getD (head i) 2 0 ∷ above i ∷ below i
-    ∷ (drop 3 (head i) ++ (getD (phase i) 0 0 ∷ getD (phase i) 1 0 ∷ getD (phase i) 2 0 ∷ getD (phase i) 3 0 ∷ getD b at.count 0 ∷ (places i ++ row 32 at.load b)))
+    ∷ (drop 3 (head i) ++ (getD (phase i) 0 0 ∷ getD (phase i) 1 0 ∷ getD (phase i) 2 0 ∷ getD (phase i) 3 0 ∷ getD b at.count 0
+    ∷ (places i ++ (row 32 at.load b ++ (getD b at.spoil 0 ∷ [])))))
 
 -- unpacked and packed again, bytes that fit are cleared
 pub clear-back : (b : List ℕ) → length b ≡ at.size → bytesFit b ≡ true → getD b at.counterLow 0 < 256 → bytesOf (chipOf b) ≡ cleared b

@@ -4,12 +4,12 @@
 use Prim.Native.Nat.{ℕ}
 use mathlib.Core.Bool.{Bool, true, false}
 use mathlib.Core.Path.{_≡_, refl, sym, ap, ap₂, _∙_}
-use mathlib.Core.List.{List, [], _∷_, map}
+use mathlib.Core.List.{List, [], _∷_, _++_, map}
 use native.Mathlib.Nat.{div-add-mod'}
 use native.Mathlib.Omega.{arith}
 use lib.Dec.{leb}
-use lib.ListN.{length, getD, take, length-map, length-append}
-use lib.Seq.{take-all, take-at, drop-at}
+use lib.ListN.{length, getD, take, drop, length-map, length-append}
+use lib.Seq.{take-at, drop-at, drop-drop, getD-drop}
 use Rattle.parts.specs.declared.phase.Phase.{Phase}
 use Rattle.parts.specs.declared.phase.Phase.the-variants.{Standby, Slave, First, Second, Data, AckWrite, AckRead, AckFirst, AckByte, Sending, Waiting, Next}
 use Rattle.chip.specs.declared.chip.Chip.{Chip}
@@ -79,20 +79,38 @@ module _ (c : Chip) (places : length (c .load .places) ≡ 32) (bytes : length (
   unfolding flags
   long = length-map (c .load .places) flagByte ∙ places
 
+  -- what is packed behind the load
+  behind : List ℕ
+  behind = c .spoil ∷ []
+
   pub packed-length : length (bytesOf c) ≡ at.size
-  unfolding bytesOf headBytes flags
-  packed-length = rw (length-append flags (c .load .bytes), long, bytes)
+  unfolding bytesOf headBytes flags behind
+  packed-length = rw (length-append flags (c .load .bytes ++ behind), length-append (c .load .bytes) behind, long, bytes)
 
   packed-places : row 32 at.places (bytesOf c) ≡ flags
-  unfolding bytesOf headBytes flags
-  packed-places = row-part 32 at.places (bytesOf c) (omega (arith, packed-length)) ∙ take-at flags (c .load .bytes) 32 long
+  unfolding bytesOf headBytes flags behind
+  packed-places = row-part 32 at.places (bytesOf c) (omega (arith, packed-length)) ∙ take-at flags (c .load .bytes ++ behind) 32 long
+
+  -- the load's bytes and what is behind them, each from its offset on
+  from-load : drop at.load (bytesOf c) ≡ c .load .bytes ++ behind
+  unfolding bytesOf headBytes flags behind
+  from-load = drop-at flags (c .load .bytes ++ behind) 32 long
+
+  behind-load : drop at.spoil (bytesOf c) ≡ behind
+  behind-load =
+      sym (drop-drop 32 at.load (bytesOf c))
+      ∙ ap (λ (l : List ℕ). drop 32 l) from-load
+      ∙ drop-at (c .load .bytes) behind 32 bytes
 
   packed-load : row 32 at.load (bytesOf c) ≡ c .load .bytes
-  unfolding bytesOf headBytes flags
   packed-load =
       row-part 32 at.load (bytesOf c) (omega (arith, packed-length))
-      ∙ ap (λ (l : List ℕ). take 32 l) (drop-at flags (c .load .bytes) 32 long)
-      ∙ take-all 32 (c .load .bytes) (omega arith)
+      ∙ ap (λ (l : List ℕ). take 32 l) from-load
+      ∙ take-at (c .load .bytes) behind 32 bytes
+
+  packed-spoil : getD (bytesOf c) at.spoil 0 ≡ c .spoil
+  unfolding behind
+  packed-spoil = sym (getD-drop at.spoil (bytesOf c) 0 0) ∙ ap (λ (l : List ℕ). getD l 0 0) behind-load
 
   -- packed and unpacked it is itself
   pub chip-back : chipOf (bytesOf c) ≡ c
@@ -121,6 +139,7 @@ module _ (c : Chip) (places : length (c .load .places) ≡ 32) (bytes : length (
               places = (ap (λ (l : List ℕ). map flagOf l) packed-places ∙ flags-back (c .load .places)) i;
               count = c .load .count;
             };
+        spoil = packed-spoil i;
       }
 
   -- and its bytes fit

@@ -1,4 +1,4 @@
--- Where each field of a chip stands in its bytes, in the order of the C struct. A field that is added stands behind the load.
+-- Where each field of a chip stands in its bytes, in the order of the C struct. A field that is added stands behind the last.
 -- (RULES K1.)
 --
 -- | Name | Meaning |
@@ -11,6 +11,7 @@
 -- | `count` | the load's count |
 -- | `places` | a flag for each place of the sector |
 -- | `load` | a byte for each place of the sector |
+-- | `spoil` | the spoil byte |
 -- | `size` | how many bytes a chip has |
 use Prim.Native.Nat.{ℕ}
 
@@ -71,5 +72,8 @@ places = 17
 abbrev pub load : ℕ
 load = 49
 
+abbrev pub spoil : ℕ
+spoil = 81
+
 abbrev pub size : ℕ
-size = 81
+size = 82

@@ -113,6 +113,7 @@ chipOf b =
             places = map flagOf (row 32 at.places b);
             count = getD b at.count 0;
           };
+      spoil = getD b at.spoil 0;
     }
 
 -- K1: the bytes before the load's places, in the order of the C struct
@@ -137,6 +138,6 @@ headBytes c =
     ∷ c .load .count
     ∷ []
 
--- K1: and then the load's places and bytes
+-- K1: and then the load's places and bytes, and the spoil byte
 unfoldable pub bytesOf : Chip → List ℕ
-bytesOf c = headBytes c ++ (map flagByte (c .load .places) ++ c .load .bytes)
+bytesOf c = headBytes c ++ (map flagByte (c .load .places) ++ (c .load .bytes ++ (c .spoil ∷ [])))

@@ -1,4 +1,4 @@
-// Where each field of a chip stands in its bytes, in the order of the C struct. A field that is added stands behind the load.
+// Where each field of a chip stands in its bytes, in the order of the C struct. A field that is added stands behind the last.
 pub(crate) const PART: usize = 0;
 
 pub(crate) const SELECT: usize = 1;
@@ -36,5 +36,7 @@ pub(crate) const COUNT: usize = 16;
 pub(crate) const PLACES: usize = 17;
 
 pub(crate) const LOAD: usize = 49;
+
+pub(crate) const SPOIL: usize = 81;
 // How many bytes a chip has.
-pub(crate) const SIZE: usize = 81;
+pub(crate) const SIZE: usize = 82;

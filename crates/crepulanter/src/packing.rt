@@ -98,9 +98,11 @@ pub(crate) fn pack(chip: Chip) -> [u8; at::SIZE]
     let bytes = load.bytes;
     let head = head_bytes(chip);
     let loaded = flag_bytes(places);
+    let spoil = [chip.spoil];
     let mut state = [0; at::SIZE];
     copy_at(&mut state, at::PART, &head);
     copy_at(&mut state, at::PLACES, &loaded);
     copy_at(&mut state, at::LOAD, &bytes);
+    copy_at(&mut state, at::SPOIL, &spoil);
     state
 }

@@ -101,6 +101,7 @@ pub(crate) fn unpack(state: &[u8; at::SIZE]) -> Chip
             places: places,
             count: state[at::COUNT],
         },
+        spoil: state[at::SPOIL],
     }
 }
 

@@ -8,7 +8,7 @@ use native.Mathlib.Omega.{arith}
 use borrow.Author.Tests.{lt-ltb}
 use lib.ListN.{length, length-set, take, replicate}
 use lib.Seq.{take-all, take-suc-set, append-snoc}
-use Rattle.parts.specs.Load.{noLoad, loaded}
+use Rattle.parts.specs.Load.{noLoad, whole, loaded}
 use Rattle.parts.specs.Sector.{nextPlace}
 use Rattle.parts.specs.declared.load.Load.{Load}
 
@@ -20,10 +20,6 @@ loadedRow load at (byte ∷ rest) = loadedRow (loaded load at byte) (nextPlace a
 unfoldable pub placeAfter : ℕ → List ℕ → ℕ
 placeAfter at [] = at
 placeAfter at (byte ∷ rest) = placeAfter (nextPlace at) rest
-
--- a load of 32 bytes, each at its place
-abbrev pub whole : List ℕ → Load
-whole bytes = record { bytes = bytes; places = replicate 32 true; count = 32 }
 
 -- the place after the k-th of a sector, the first after the last
 place-next : (sector k at : ℕ) → k < 32 → at ≡ sector * 32 + k % 32 → nextPlace at ≡ sector * 32 + suc k % 32

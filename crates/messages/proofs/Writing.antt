@@ -1,6 +1,6 @@
 -- Messages that write, from a chip that rests to one that rests again: 02h to the register sets PEL, and 32 bytes at a sector's start are stored
 -- there, or not where it is locked. Every byte is acknowledged, and the STOP alone has a note. Assumes nothing.
-use Prim.Native.Nat.{ℕ, zero, suc, _+_, _*_, _/_, _%_, _≤_, _<_}
+use Prim.Native.Nat.{ℕ, zero, suc, _+_, _*_, _/_, _≤_, _<_}
 use mathlib.Core.Bool.{Bool, true, false, cond, not, and-false}
 use mathlib.Core.List.{List, [], _∷_, _++_}
 use mathlib.Core.Path.{_≡_, refl, ap, _∙_}
@@ -9,7 +9,7 @@ use native.Mathlib.Omega.{arith}
 use lib.Dec.{eqb}
 use lib.ListN.{length, getD}
 use lib.Seq.{getD-append-add}
-use Rattle.parts.specs.Load.{noLoad, loaded, stored}
+use Rattle.parts.specs.Load.{noLoad, whole, loaded, stored}
 use Rattle.parts.specs.Locks.{locked}
 use Rattle.parts.specs.Phase.{risen, phasePulls}
 use Rattle.parts.specs.Register.{withPel, withRpel, written, writtenAs, latchWritten}
@@ -31,7 +31,7 @@ use Rattle.chip.proofs.Posed.{posed}
 use Rattle.messages.specs.Messages.{begin, end, byteSent, bytesSent, messageBytes, message, registerWrite}
 use Rattle.messages.specs.RandomRead.{AckAt}
 use Rattle.messages.specs.Wires.{clocks}
-use Rattle.messages.proofs.Loading.{loadedRow, placeAfter, whole, row-loaded, row-place}
+use Rattle.messages.proofs.Loading.{loadedRow, placeAfter, row-loaded, row-place}
 use Rattle.messages.proofs.Sending.{idle, resting, begun, twice, heardSent, slave-sent, first-sent, second-sent, register-sent, byte-sent, data-sent}
 use Rattle.messages.proofs.Telling.{pinned, silent, steady-on, Plays, plays-then, Says, then}
 
@@ -73,9 +73,9 @@ module _ (c : Chip) (xs : List ℕ) where
 
   -- a whole load is stored, unless its sector is locked
   whole-effect : (counter : ℕ) (bytes : List ℕ) (pin shut : Bool) → locked (c .part) (c .register .bl) pin (sectorStart counter) ≡ shut
-      → stopEffect (stopping counter false (whole bytes)) pin ≡ cond shut (Nothing 4) (Store 1)
+      → stopEffect (stopping counter false (whole bytes)) pin ≡ cond shut (Nothing 4) Store
   unfolding stopEffect rightEffect rightly arrayEffect
-  whole-effect counter bytes pin shut e = rw (and-false (eqb (c .part) 1), e)
+  whole-effect counter bytes pin shut e = rw (e, and-false (eqb (c .part) 1))
 
   -- the STOP after 02h
   pel-stopped : (counter : ℕ) (pin : Bool) → c .register .rpel ≡ false

@@ -1,15 +1,16 @@
 -- The load: what comes in for a sector, and what a store of it leaves in the array.
--- (RULES C9, C10, T13, S9.)
+-- (RULES C9, C10, T13, S7, S9.)
 --
 -- | Name | Meaning |
 -- |---|---|
 -- | `noLoad` | the empty load |
+-- | `whole bytes`, `fullOf byte` | a load of these 32 bytes, from the sector's start on; of 32 times the same |
 -- | `counted n` | the count after one byte more |
 -- | `loaded load at byte` | the load with a byte more, at the place of an address |
 -- | `placed`, `storedTo k` | one place of a store; its first k places |
 -- | `stored xs start load` | the array after a store in the sector that begins at `start` |
 use Prim.Native.Nat.{ℕ, zero, suc, _+_, _%_}
-use mathlib.Core.Bool.{Bool, true, false, cond}
+use mathlib.Core.Bool.{true, false, cond}
 use mathlib.Core.List.{List}
 use lib.Dec.{ltb}
 use lib.ListN.{getD, set, replicate}
@@ -18,6 +19,14 @@ use Rattle.parts.specs.declared.load.Load.{Load}
 -- C10: zeros, no place loaded, count 0 (reading: after a START and a STOP in every case)
 abbrev pub noLoad : Load
 noLoad = record { bytes = replicate 32 0; places = replicate 32 false; count = 0 }
+
+-- C9: every place is loaded
+abbrev pub whole : List ℕ → Load
+whole bytes = record { bytes = bytes; places = replicate 32 true; count = 32 }
+
+-- S7: with the one byte
+abbrev pub fullOf : ℕ → Load
+fullOf byte = whole (replicate 32 byte)
 
 -- C9: 33 stands for 33 or more
 abbrev pub counted : ℕ → ℕ

@@ -3,7 +3,7 @@ ghost use mathlib.Core.Path.{_≡_};
 ghost use Prim.Native.Nat.{_+_};
 ghost use lib.ListN.{set};
 ghost use mathlib.Core.Bool.{cond};
-ghost use Rattle.parts.specs.Load.{noLoad, loaded, stored};
+ghost use Rattle.parts.specs.Load.{noLoad, fullOf, loaded, stored};
 
 // 32 bytes, which places are loaded, and how many bytes came, where 33 means 33 or more.
 pub struct Load {
@@ -38,6 +38,17 @@ impl Load {
             bytes: [0; 32],
             places: [false; 32],
             count: 0,
+        }
+    }
+
+    // A load of 32 times the same byte.
+    pub fn full(byte: u8) -> Load
+        ensures { λ r. ⌜ r ≡ fullOf byte ⌝ }
+    {
+        Load {
+            bytes: [byte; 32],
+            places: [true; 32],
+            count: 32,
         }
     }
 

@@ -127,9 +127,9 @@ pub demand-3 : (s : Scene) (w : World) → FromPowerUp w → Protected s w → P
 unfolding gotOf
 demand-3 s w f p =
     protected-read s w
-    (rw (f .after-run) (ran-taken (f .run) up (taken-so (up .chip) (up .array) (f .array-whole) (fits-so (up .chip) (up-fits (f .part) (f .select) (f .ppen) (f .bl) (f .part-in) (f .select-in) (f .bl-in))))))
-    (rw (f .after-run) (ran-bytes (f .run) up (none-octets Standby (omega arith), f .array-bytes) .1))
+    (rw (f .after-run) (ran-taken (f .run) up (taken-so (up .chip) (up .array) (f .array-whole) (fits-so (up .chip) (up-fits (f .part) (f .select) (f .ppen) (f .bl) (f .spoil) (f .part-in) (f .select-in) (f .bl-in))))))
+    (rw (f .after-run) (ran-bytes (f .run) up (none-octets Standby (omega arith), f .array-bytes, f .spoil-in) .1))
     p
   where
     up : World
-    up = world (atPowerUp (f .part) (f .select) (f .ppen) (f .bl)) (f .array)
+    up = world (atPowerUp (f .part) (f .select) (f .ppen) (f .bl) (f .spoil)) (f .array)

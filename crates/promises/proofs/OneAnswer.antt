@@ -8,7 +8,7 @@ use mathlib.Core.Path.{_≡_, sym, _∙_}
 use contract.Lifetimes.{Lfts}
 use denote.Ref.{now}
 use lib.ListN.{length, drop}
-use Rattle.parts.specs.Load.{noLoad, loaded, stored}
+use Rattle.parts.specs.Load.{noLoad, fullOf, loaded, stored}
 use Rattle.parts.specs.Locks.{locked}
 use Rattle.parts.specs.Phase.{weight, received, bitOf, phaseFits, phasePulls, risen}
 use Rattle.parts.specs.Register.{registerByte, written}
@@ -18,7 +18,7 @@ use Rattle.parts.proofs.load
 use Rattle.parts.proofs.locks
 use Rattle.parts.proofs.sector
 use Rattle.parts.proofs.phase
-use Rattle.chip.specs.Chip.{standardChip, made}
+use Rattle.chip.specs.Chip.{withSpoil, standardChip, made}
 use Rattle.chip.specs.Event.{next, nextArray, refusal, eventAnswer, eventArray}
 use Rattle.chip.proofs.chip.Chip
 use Rattle.trace.specs.Bytes.{eventOf, sampleByte, answerByte}
@@ -135,6 +135,10 @@ operations =
     ∷ one (whole 0 load.Load.none.Kinds.ps load.Load.none.Kinds.r load.Load.none.Reads.Post)
     (λ κs end. (noLoad, tt))
     (λ κs input r left. alone)
+    -- Load::full
+    ∷ one (whole 0 load.Load.full.Kinds.ps load.Load.full.Kinds.r load.Load.full.Reads.Post)
+    (λ κs (byte, end). (fullOf byte, (tt, tt)))
+    (λ κs input r left. alone)
     -- Load::with
     ∷ one (whole 0 load.Load.with.Kinds.ps load.Load.with.Kinds.r load.Load.with.Reads.Post)
     (λ κs (self, (at, (byte, end))). (loaded self at byte, (tt, (tt, (tt, tt)))))
@@ -150,6 +154,10 @@ operations =
     -- Chip::new
     ∷ one (whole 0 Chip.new.Kinds.ps Chip.new.Kinds.r Chip.new.Reads.Post)
     (λ κs (part, (select, end)). (made part select, (tt, (tt, tt))))
+    (λ κs input r left. alone)
+    -- Chip::with_spoil
+    ∷ one (whole 0 Chip.with_spoil.Kinds.ps Chip.with_spoil.Kinds.r Chip.with_spoil.Reads.Post)
+    (λ κs (self, (spoil, end)). (withSpoil self spoil, (tt, (tt, tt))))
     (λ κs input r left. alone)
     -- Chip::next
     ∷ one (whole 1 Chip.next.Kinds.ps Chip.next.Kinds.r Chip.next.Reads.Post)

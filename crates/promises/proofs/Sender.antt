@@ -7,7 +7,7 @@ use mathlib.Core.Path.{_≡_, refl, ap, ap₂, sym, subst, subst₂, _∙_}
 use native.Mathlib.Omega.{arith}
 use lib.ListN.{length, drop, replicate, length-drop, getD-replicate}
 use lib.Seq.{length-take-le, getD-take, getD-drop, ext-getD}
-use Rattle.parts.specs.Load.{noLoad, stored}
+use Rattle.parts.specs.Load.{noLoad, whole, stored}
 use Rattle.parts.specs.Register.{withPel, withRpel}
 use Rattle.parts.specs.Sector.{sectorStart, Bytes}
 use Rattle.parts.specs.Rows.{stepped}
@@ -30,7 +30,6 @@ use Rattle.messages.specs.Messages.{begin, bytesSent, messageBytes, message, re
 use Rattle.messages.specs.RandomRead.{AckAt, randomRead, held, Returns}
 use Rattle.messages.specs.Wires.{spelled, heardOf}
 use Rattle.messages.proofs.Held.{held-part}
-use Rattle.messages.proofs.Loading.{whole}
 use Rattle.messages.proofs.RandomRead.{rested-read, read-bytes}
 use Rattle.messages.proofs.Sending.{heardSent, twice, resting}
 use Rattle.messages.proofs.Spelling.{played-pinned, bytes-length}
@@ -119,7 +118,7 @@ acks-written select gate bytes sized k h =
     (row-acked (heardMessage (pelRow select) ++ (true ∷ false ∷ [])) (recordRow select gate bytes) (false ∷ false ∷ true ∷ true ∷ []) k (rw sized h))
 
 -- a whole load stored in the sector of a gate is the record there, and nothing beside it
-wrote : (gate : ℕ) (bytes xs : List ℕ) → gate ≤ 511 → length bytes ≡ 32 → length xs ≡ 16384 → Wrote gate bytes xs (stored xs (gate * 32) (whole bytes))
+pub wrote : (gate : ℕ) (bytes xs : List ℕ) → gate ≤ 511 → length bytes ≡ 32 → length xs ≡ 16384 → Wrote gate bytes xs (stored xs (gate * 32) (whole bytes))
 wrote gate bytes xs gate-in sized all =
     record {
       sized = length-stored xs (gate * 32) (whole bytes);

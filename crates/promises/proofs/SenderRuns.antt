@@ -36,9 +36,9 @@ use Rattle.promises.specs.Sender.{Ready, Wrote}
 use Rattle.promises.specs.SenderRuns.{northRecord, north17, up, armed, Unlocks}
 use Rattle.promises.proofs.Sender.{sent-stored, sent-locked}
 
--- A chip of any part, select, PPEN and BL is ready after a power-up, over any whole array
-pub up-ready : (part select : ℕ) (ppen : Bool) (bl : ℕ) (xs : List ℕ) → length xs ≡ 16384 → Ready select (world (atPowerUp part select ppen bl) xs)
-up-ready part select ppen bl xs whole =
+-- A chip of any part, select, PPEN, BL and spoil byte is ready after a power-up, over any whole array
+pub up-ready : (part select : ℕ) (ppen : Bool) (bl spoil : ℕ) (xs : List ℕ) → length xs ≡ 16384 → Ready select (world (atPowerUp part select ppen bl spoil) xs)
+up-ready part select ppen bl spoil xs whole =
     record { selected = refl; idle = refl; standby = refl; rpel = refl; load = refl; whole = whole }
 
 -- an array of FFh is whole
@@ -58,16 +58,16 @@ north-bytes = bytes-below northRecord refl
 pub north-stored : Wrote 17 northRecord erased (after (north17 5) (up 0 0) .array) × Wrote 17 northRecord erased (after (north17 5) (up 1 0) .array)
 unfolding firstLocked
 north-stored = (
-  sent-stored 17 northRecord 5 713 north-sent north-bytes (up 0 0) (up-ready 0 5 true 0 erased whole) refl .1,
-  sent-stored 17 northRecord 5 713 north-sent north-bytes (up 1 0) (up-ready 1 5 true 0 erased whole) refl .1,
+  sent-stored 17 northRecord 5 713 north-sent north-bytes (up 0 0) (up-ready 0 5 true 0 0x00 erased whole) refl .1,
+  sent-stored 17 northRecord 5 713 north-sent north-bytes (up 1 0) (up-ready 1 5 true 0 0x00 erased whole) refl .1,
 )
 
 -- and with BL 3 no byte changes
 pub north-locked : (after (north17 5) (up 0 3) .array ≡ erased) × (after (north17 5) (up 1 3) .array ≡ erased)
 unfolding firstLocked
 north-locked = (
-  sent-locked 17 northRecord 5 713 north-sent north-bytes (up 0 3) (up-ready 0 5 true 3 erased whole) refl .1,
-  sent-locked 17 northRecord 5 713 north-sent north-bytes (up 1 3) (up-ready 1 5 true 3 erased whole) refl .1,
+  sent-locked 17 northRecord 5 713 north-sent north-bytes (up 0 3) (up-ready 0 5 true 3 0x00 erased whole) refl .1,
+  sent-locked 17 northRecord 5 713 north-sent north-bytes (up 1 3) (up-ready 1 5 true 3 0x00 erased whole) refl .1,
 )
 
 -- So RPEL has to be clear: on both parts

@@ -1,6 +1,6 @@
--- Demand 3 speaks of something, and what it takes is needed: a concrete run that meets all of it, and two that fail one hypothesis each and
--- lose a locked byte. Assumes nothing.
-use Prim.Native.Nat.{ℕ, _+_, _%_}
+-- Demand 3 speaks of something, and what it takes is needed: on either part a concrete run that meets all of it, and two that fail one
+-- hypothesis each and lose a locked byte. Assumes nothing.
+use Prim.Native.Nat.{ℕ, zero, suc, _+_, _%_, _≤_}
 use mathlib.Core.Bool.{true, false}
 use mathlib.Core.List.{List, [], _∷_}
 use mathlib.Core.Path.{_≡_, refl, _∙_}
@@ -28,7 +28,7 @@ use Rattle.promises.specs.Demand3.{FromPowerUp, free, heard, Protected, 
 use Rattle.messages.specs.Messages.{byteSent}
 use Rattle.messages.specs.RandomRead.{byteTaken, bytesTaken, randomRead, highs, bitsIn, held, bytesRead}
 use Rattle.messages.specs.Wires.{spelled, clocks, byteOf}
-use Rattle.promises.specs.Runs.{high, lowAtStop, registerSet, attack, cutRead, edged, registered, protected, unprotected, withstood, attacked, lows, Lost}
+use Rattle.promises.specs.Runs.{high, lowAtStop, registerSet, attack, cutRead, edged, registered, protected, unprotected, withstood, attacked, struck, lows, Lost}
 use Rattle.promises.proofs.Demand3.{demand-3}
 
 -- the random read of two bytes from 3FFFh at select 5, as event bytes with the pin low: slave byte AAh, 3Fh, FFh, the restart, ABh, two bytes
@@ -44,23 +44,23 @@ unfolding spelled randomRead byteSent byteTaken bytesTaken clocks
 read-spelled = refl
 
 -- what is computed of the runs
-record Computed : Type 0 where
-  ppen : protected .chip .register .ppen ≡ true
-  bl : protected .chip .register .bl ≡ 3
-  first : firstLocked (protected .chip .part) (protected .chip .register .bl) ≡ 0
+record Computed (part : ℕ) : Type 0 where
+  ppen : protected part .chip .register .ppen ≡ true
+  bl : protected part .chip .register .bl ≡ 3
+  first : firstLocked (protected part .chip .part) (protected part .chip .register .bl) ≡ 0
   pins : pinsHigh (withstood .noise) ≡ true
-  pulses : free withstood protected .pulses ≡ 10
-  back : bytesRead 2 (heard withstood protected) ≡ 0xa5 ∷ 0x00 ∷ []
-  no-ppen : unprotected .chip .register .ppen ≡ false
+  pulses : free withstood (protected part) .pulses ≡ 10
+  back : bytesRead 2 (heard withstood (protected part)) ≡ 0xa5 ∷ 0x00 ∷ []
+  no-ppen : unprotected part .chip .register .ppen ≡ false
   attack-pins : pinsHigh (attacked high .noise) ≡ true
-  no-ppen-lost : Lost (attacked high) unprotected 0x00 0x55
+  no-ppen-lost : Lost (attacked high) (unprotected part) 0x00 (struck part)
   low-pins : lows (attacked lowAtStop .noise) ≡ 1
-  low-lost : Lost (attacked lowAtStop) protected 0x00 0x55
+  low-lost : Lost (attacked lowAtStop) (protected part) 0x00 (struck part)
 
--- all of it at once
-computed : Computed
+-- all of it at once, for each part
+computed : (part : ℕ) → part ≤ 1 → Computed part
 unfolding stepped answersOf eventOf spelled noteOf step next nextArray sampled judged judgedArray reacted reactedArray edgeOf pulls phasePulls risen fallIn slaveTaken addressTaken arrayData registerData byteBegun byteEnded stopEffect rightEffect arrayEffect rightly effectMoved effectArray firstLocked written latchWritten lockWritten loaded storedTo clocks byteSent byteTaken bytesTaken randomRead highs bitsIn byteOf held every pinHigh pulse pulsed recovered registerSet attack cutRead edged lows
-computed =
+computed zero h =
     record {
       ppen = refl;
       bl = refl;
@@ -74,6 +74,21 @@ computed =
       low-pins = refl;
       low-lost = record { locked-before = refl; held-before = refl; read-after = refl };
     }
+computed (suc zero) h =
+    record {
+      ppen = refl;
+      bl = refl;
+      first = refl;
+      pins = refl;
+      pulses = refl;
+      back = refl;
+      no-ppen = refl;
+      attack-pins = refl;
+      no-ppen-lost = record { locked-before = refl; held-before = refl; read-after = refl };
+      low-pins = refl;
+      low-lost = record { locked-before = refl; held-before = refl; read-after = refl };
+    }
+computed (suc (suc part)) h = absurd (omega arith)
 
 -- the array of the scenes is one of 16,384
 edged-whole : length edged ≡ 16384
@@ -91,54 +106,57 @@ edged-bytes =
     (omega arith)
 
 -- a chip with any register byte is one run from power-up
-registered-up : (byte : ℕ) → FromPowerUp (registered byte)
-registered-up byte =
+registered-up : (part byte : ℕ) → part ≤ 1 → FromPowerUp (registered part byte)
+registered-up part byte h =
     record {
-      part = 0;
+      part = part;
       select = 5;
       ppen = false;
       bl = 0;
+      spoil = 0xff;
       array = edged;
       run = registerSet 5 high byte;
-      part-in = omega arith;
+      part-in = h;
       select-in = omega arith;
       bl-in = omega arith;
+      spoil-in = omega arith;
       array-whole = edged-whole;
       array-bytes = edged-bytes;
       after-run = refl;
     }
 
--- the attack that is withstood meets all that demand 3 takes
-pub witness : FromPowerUp protected × Protected withstood protected
-witness = (
-  registered-up 0x9a,
-  record {
-    ppen-set = computed .ppen;
-    region-locked = λ e. absurd (omega (arith, computed .bl));
-    pin-high = computed .pins;
-    address-in = omega arith;
-    stays-locked = λ k l. rw (computed .first) (leb·zero ((0x3fff + k) % 0x4000));
-  },
-)
+module _ (part : ℕ) (h : part ≤ 1) where
+  -- the attack that is withstood meets all that demand 3 takes
+  pub witness : FromPowerUp (protected part) × Protected withstood (protected part)
+  witness = (
+    registered-up part 0x9a h,
+    record {
+      ppen-set = computed part h .ppen;
+      region-locked = λ e. absurd (omega (arith, computed part h .bl));
+      pin-high = computed part h .pins;
+      address-in = omega arith;
+      stays-locked = λ k l. rw (computed part h .first) (leb·zero ((0x3fff + k) % 0x4000));
+    },
+  )
 
--- so it has all that demand 3 promises
-pub attack-promised : Promised withstood protected
-attack-promised = demand-3 withstood protected (witness .0) (witness .1)
+  -- so it has all that demand 3 promises
+  pub attack-promised : Promised withstood (protected part)
+  attack-promised = demand-3 withstood (protected part) (witness .0) (witness .1)
 
--- it takes all ten pulses, and reads A5h and over the roll-over 00h
-pub attack-comes-out : (free withstood protected .pulses ≡ 10) × (bytesRead 2 (heard withstood protected) ≡ 0xa5 ∷ 0x00 ∷ [])
-attack-comes-out = (computed .pulses, computed .back)
+  -- it takes all ten pulses, and reads A5h and over the roll-over 00h
+  pub attack-comes-out : (free withstood (protected part) .pulses ≡ 10) × (bytesRead 2 (heard withstood (protected part)) ≡ 0xa5 ∷ 0x00 ∷ [])
+  attack-comes-out = (computed part h .pulses, computed part h .back)
 
--- with PPEN clear a locked byte is lost, though the pin is high in every sample: 00h becomes 55h
-pub ppen-needed : FromPowerUp unprotected
-    × (unprotected .chip .register .ppen ≡ false)
-    × (pinsHigh (attacked high .noise) ≡ true)
-    × Lost (attacked high) unprotected 0x00 0x55
-ppen-needed = (registered-up 0x1a, computed .no-ppen, computed .attack-pins, computed .no-ppen-lost)
+  -- with PPEN clear a locked byte is lost, though the pin is high in every sample: 00h becomes 55h or the spoil byte
+  pub ppen-needed : FromPowerUp (unprotected part)
+      × (unprotected part .chip .register .ppen ≡ false)
+      × (pinsHigh (attacked high .noise) ≡ true)
+      × Lost (attacked high) (unprotected part) 0x00 (struck part)
+  ppen-needed = (registered-up part 0x1a h, computed part h .no-ppen, computed part h .attack-pins, computed part h .no-ppen-lost)
 
--- with PPEN set a locked byte is lost if the pin is low in one sample
-pub pin-needed : FromPowerUp protected
-    × (protected .chip .register .ppen ≡ true)
-    × (lows (attacked lowAtStop .noise) ≡ 1)
-    × Lost (attacked lowAtStop) protected 0x00 0x55
-pin-needed = (registered-up 0x9a, computed .ppen, computed .low-pins, computed .low-lost)
+  -- with PPEN set a locked byte is lost if the pin is low in one sample
+  pub pin-needed : FromPowerUp (protected part)
+      × (protected part .chip .register .ppen ≡ true)
+      × (lows (attacked lowAtStop .noise) ≡ 1)
+      × Lost (attacked lowAtStop) (protected part) 0x00 (struck part)
+  pin-needed = (registered-up part 0x9a h, computed part h .ppen, computed part h .low-pins, computed part h .low-lost)

@@ -13,6 +13,7 @@
 -- | `pelSet`, `locking byte` | the same with PEL set; the same with PPEN and BL written, the cycle done |
 -- | `changes` | the addresses at which two arrays differ |
 -- | `buffer`, `north`, `travelled` | a free record as a buffer; the label of case 4; the travel that a written record is read with |
+-- | `zeroed spoil`, `leaves` | an X24F128 with this spoil byte over an array of 00h; what so many bytes at 0000h have it say, and leave |
 -- | `begins` | a lock begins at an address |
 -- | `hung`, `pulsesOf` | a chip stopped in an acknowledge; the pulses that recovery reports |
 -- | `pinAtStop` | a write to the register with one pin level up to its STOP and another in it |
@@ -27,7 +28,7 @@ use lib.ListN.{take, drop, set, replicate}
 use Rattle.parts.specs.Locks.{locked}
 use Rattle.parts.specs.Register.{registerByte}
 use Rattle.parts.specs.Sector.{erased}
-use Rattle.chip.specs.Chip.{newChip}
+use Rattle.chip.specs.Chip.{withSpoil, newChip}
 use Rattle.chip.specs.Run.{World, world, step, ran, notes}
 use Rattle.chip.specs.declared.wire.Event.{Event}
 use Rattle.chip.specs.declared.wire.Event.the-variants.{ProgramDone, PowerUp}
@@ -163,13 +164,25 @@ case-6 =
     && agree (take 32 (after .array)) (27 ∷ replicate 5 0xff ++ upFrom 26 1)
     && eqb (after .chip .counter) 0x0001
 
--- 7. X24F128: 31 bytes note 5, 32 note 1, 33 note 5
+-- an X24F128 with this spoil byte and PEL 1, over an array of 00h
+abbrev pub zeroed : ℕ → World
+zeroed spoil = pelSet (world (withSpoil (newChip 1 0) spoil) (replicate 16384 0x00))
+
+-- so many bytes at 0000h: their note, and what the sector holds then; each of its bytes changes, and no other of the array
+abbrev pub leaves : ℕ → World → ℕ → List ℕ → Bool
+leaves n w note sector =
+    let bytes : List Wires = message 0 0x0000 (upFrom n 1) in
+    agree (told bytes w) (note ∷ [])
+    && agree (changes (w .array) (sent bytes w .array)) (upFrom 32 0)
+    && agree (take 32 (sent bytes w .array)) sector
+
+-- 7. X24F128: 31 bytes note 5, 32 note 1, 33 note 5; 31 and 33 leave 32 spoil bytes, 32 leave the load
 abbrev pub case-7 : Bool
 case-7 =
-    let before : World = pelSet (fresh 1) in
-    agree (told (message 0 0x0000 (upFrom 31 1)) before) (5 ∷ [])
-    && agree (told (message 0 0x0000 (upFrom 32 1)) before) (1 ∷ [])
-    && agree (told (message 0 0x0000 (upFrom 33 1)) before) (5 ∷ [])
+    leaves 31 (zeroed 0xff) 5 (replicate 32 0xff)
+    && leaves 31 (zeroed 0x5a) 5 (replicate 32 0x5a)
+    && leaves 32 (zeroed 0x5a) 1 (upFrom 32 1)
+    && leaves 33 (zeroed 0x5a) 5 (replicate 32 0x5a)
 
 -- the address is locked and the one below is not; so say the notes of 32 bytes written to each
 abbrev pub begins : World → ℕ → ℕ → Bool

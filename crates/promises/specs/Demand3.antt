@@ -27,20 +27,22 @@ use Rattle.trace.specs.Trace.{answersOf, ranOf, runAnswers}
 use Rattle.messages.specs.RandomRead.{randomRead, Acknowledged, bitsRead, bytesRead, held}
 use Rattle.messages.specs.Wires.{spelled, heardOf, bitsOf}
 
--- a chip of either part as power-up leaves it, with any select, PPEN and BL, any array of 16,384 bytes, and whatever events came since
+-- a chip of either part as power-up leaves it, with any select, PPEN, BL and spoil byte, any array of 16,384 bytes, and whatever events came since
 pub record FromPowerUp (w : World) : Type 0 where
   pub part : ℕ
   pub select : ℕ
   pub ppen : Bool
   pub bl : ℕ
+  pub spoil : ℕ
   pub array : List ℕ
   pub run : List Event
   pub part-in : part ≤ 1
   pub select-in : select ≤ 7
   pub bl-in : bl ≤ 3
+  pub spoil-in : spoil < 0x100
   pub array-whole : length array ≡ 16384
   pub array-bytes : Bytes array
-  pub after-run : w ≡ ran run (world (atPowerUp part select ppen bl) array)
+  pub after-run : w ≡ ran run (world (atPowerUp part select ppen bl spoil) array)
 
 -- none of it is bound to the chip
 pub record Scene : Type 0 where
@@ -93,7 +95,7 @@ pub record Promised (s : Scene) (w : World) : Type 0 where
   pub line-high : FirstHigh (s .pin) (done s w) (free s w .pulses) (free s w .world)
   -- the chip sees the start that is made there
   pub start-seen : SeesStart (atStart s w .chip)
-  -- recovery leaves every byte of the array and PPEN, BL, RPEL and PEL
+  -- recovery leaves every byte of the array, PPEN, BL, RPEL, PEL and the spoil byte
   pub recovery-keeps : Unchanged (done s w) (atStart s w)
   -- it is the recovery that the code answers: not refused, with this chip, this number and this array
   pub code-answers : recoveryAnswer (s .pin) (done s w .chip) (done s w .array) ≡ record { refusal = 0; chip = atStart s w .chip; pulses = free s w .pulses }

@@ -5,3 +5,4 @@ pub mod OneAnswer
 pub mod Runs
 pub mod Sender
 pub mod SenderRuns
+pub mod Spoil

@@ -1,13 +1,14 @@
--- Concrete runs for demand 3: one that meets all that it takes, and two that fail one hypothesis each.
+-- Concrete runs for demand 3, on either part: one that meets all that it takes, and two that fail one hypothesis each.
 --
 -- | Name | Meaning |
 -- |---|---|
 -- | `high`, `lowAtStop` | the pin high in every sample; low in the STOP of a register write alone |
 -- | `registerSet` | PEL, RPEL, then a register byte and its cycle |
--- | `attack` | a register byte that clears PPEN and BL, then 55h to address 0000h and its cycle |
+-- | `attack` | a register byte that clears PPEN and BL, then 55h alone to address 0000h and its cycle |
+-- | `struck part` | what this leaves there: 55h on the X24128, the spoil byte on the X24F128 |
 -- | `cutRead` | a slave byte with read, cut with SCL low in its acknowledge |
 -- | `edged` | an array of FFh with 00h at its first address and A5h at its last |
--- | `registered`, `protected`, `unprotected` | a chip with a register byte, run from power-up; PPEN 1 and BL 3; PPEN 0 and BL 3 |
+-- | `registered part`, `protected part`, `unprotected part` | a chip with a register byte, run from power-up; PPEN 1 and BL 3; PPEN 0 and BL 3 |
 -- | `withstood` | the attack with the pin high, a power-up and a cut read; two bytes read over the roll-over |
 -- | `attacked` | the attack with these pins in its register byte; one byte read |
 -- | `lows` | how many samples have the pin low |
@@ -50,6 +51,10 @@ registerSet select pins byte =
 unfoldable pub attack : ℕ → (ℕ → Bool) → List Event
 attack select pins = registerSet select pins 0x02 ++ played high (message select 0x0000 (0x55 ∷ [])) ++ (ProgramDone ∷ [])
 
+-- S7, S9: one byte is stored by the X24128, and spoils the sector of an X24F128
+abbrev pub struck : ℕ → ℕ
+struck part = cond (eqb part 0) 0x55 0xff
+
 -- case 11's cut: eight bits, and the low half of the ninth clock
 unfoldable pub cutRead : ℕ → List Event
 cutRead select = played high (begin ++ clocks (bitsOf (slaveByte select true)) ++ (wiresOf 2 ∷ []))
@@ -58,17 +63,17 @@ cutRead select = played high (begin ++ clocks (bitsOf (slaveByte select true)) +
 unfoldable pub edged : List ℕ
 edged = set (set erased 0x0000 0x00) 0x3fff 0xa5
 
--- an X24128 at select 5 with this register byte, run from power-up
-abbrev pub registered : ℕ → World
-registered byte = ran (registerSet 5 high byte) (world (newChip 0 5) edged)
+-- a new chip at select 5 with this register byte, run from power-up
+abbrev pub registered : ℕ → ℕ → World
+registered part byte = ran (registerSet 5 high byte) (world (newChip part 5) edged)
 
 -- 9Ah is PPEN 1 and BL 3
-abbrev pub protected : World
-protected = registered 0x9a
+abbrev pub protected : ℕ → World
+protected part = registered part 0x9a
 
 -- 1Ah is PPEN 0 and BL 3
-abbrev pub unprotected : World
-unprotected = registered 0x1a
+abbrev pub unprotected : ℕ → World
+unprotected part = registered part 0x1a
 
 -- the attack with the pin high, a power-up, a cut read; then two bytes from 3FFFh
 abbrev pub withstood : Scene

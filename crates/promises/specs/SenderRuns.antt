@@ -3,7 +3,7 @@
 -- | Name | Meaning |
 -- |---|---|
 -- | `northRecord`, `north17 select` | the record of worked case 4; its events as gate 17's |
--- | `up part bl` | a chip at select 5 with PPEN set, just powered up, over an array of FFh |
+-- | `up part bl` | a chip at select 5 with PPEN set and spoil byte 00h, just powered up, over an array of FFh |
 -- | `armed part` | a chip with PPEN 1, BL 3 and RPEL 1 |
 -- | `Unlocks` | the events take PPEN and BL away, and leave no record |
 use Prim.Native.Nat.{ℕ}
@@ -32,7 +32,7 @@ north17 select = sentEvents select 17 northRecord
 
 -- as power-up leaves it
 abbrev pub up : ℕ → ℕ → World
-up part bl = world (atPowerUp part 5 true bl) erased
+up part bl = world (atPowerUp part 5 true bl 0x00) erased
 
 -- run from power-up at select 0: 9Ah writes PPEN 1 and BL 3, and then 06h sets RPEL
 abbrev pub armed : ℕ → World

@@ -1,13 +1,13 @@
--- What a pulse and a START keep: part, select, register, busy and the array, since neither is a STOP. Assumes nothing.
+-- What a pulse and a START keep: part, select, spoil byte, register, busy and the array, since neither is a STOP. Assumes nothing.
 use Prim.Native.Nat.{ℕ}
 use mathlib.Core.Bool.{Bool, true, false, cond}
 use mathlib.Core.Path.{_≡_, refl, _∙_}
 use mathlib.Core.List.{List}
 use Rattle.parts.specs.declared.register.Register.{Register}
 use Rattle.chip.specs.Chip.{pulls}
-use Rattle.chip.specs.Event.{next, sampled, lineIn}
+use Rattle.chip.specs.Event.{next, sampled}
 use Rattle.chip.specs.Run.{World, world, step}
-use Rattle.chip.specs.View.{isStop, stops, Untouched}
+use Rattle.chip.specs.View.{isStop, stops}
 use Rattle.chip.specs.Wire.{sample, lineOf, edgeOf}
 use Rattle.chip.specs.declared.wire.Edge.the-variants.{Quiet, Start}
 use Rattle.chip.specs.declared.wire.Sample.{Sample as Levels}
@@ -18,20 +18,21 @@ use Rattle.chip.proofs.ViewLaws.{unstopped}
 use Rattle.recovery.specs.Recovery.{pulse}
 
 -- what is kept of a chip and its array, over what is left of them
-pub record Fixed (w : World) (p s : ℕ) (r : Register) (b : Bool) (ys : List ℕ) : Type 0 where
+pub record Fixed (w : World) (p s q : ℕ) (r : Register) (b : Bool) (ys : List ℕ) : Type 0 where
   pub part : p ≡ w .chip .part
   pub select : s ≡ w .chip .select
+  pub spoil : q ≡ w .chip .spoil
   pub register : r ≡ w .chip .register
   pub busy : b ≡ w .chip .busy
   pub array : ys ≡ w .array
 
 -- a world keeps so much of another
 abbrev pub Keeps : World → World → Type 0
-Keeps w v = Fixed w (v .chip .part) (v .chip .select) (v .chip .register) (v .chip .busy) (v .array)
+Keeps w v = Fixed w (v .chip .part) (v .chip .select) (v .chip .spoil) (v .chip .register) (v .chip .busy) (v .array)
 
 -- each world keeps its own
 abbrev pub itself : (w : World) → Keeps w w
-itself w = record { part = refl; select = refl; register = refl; busy = refl; array = refl }
+itself w = record { part = refl; select = refl; spoil = refl; register = refl; busy = refl; array = refl }
 
 -- one step after another
 pub and-then : (u v w : World) → Keeps u v → Keeps v w → Keeps u w
@@ -39,6 +40,7 @@ and-then u v w k l =
     record {
       part = l .part ∙ k .part;
       select = l .select ∙ k .select;
+      spoil = l .spoil ∙ k .spoil;
       register = l .register ∙ k .register;
       busy = l .busy ∙ k .busy;
       array = l .array ∙ k .array;
@@ -55,7 +57,7 @@ unstopped-keeps scl sda pin w other =
     let s : Levels = record { scl = scl; sda = sda; pin = pin } in
     let u = unstopped s (w .chip) (w .array) other in
     let t = next-same (sample scl sda pin) (w .chip) (w .array) in
-    record { part = t .0; select = t .1; register = u .register; busy = u .same; array = u .array }
+    record { part = t .0; select = t .1; spoil = t .2; register = u .register; busy = u .same; array = u .array }
 
 -- SCL low makes no stop, and neither does SCL that was low
 low-edge : (scl line now : Bool) → isStop (edgeOf scl false line now) ≡ false

@@ -45,11 +45,11 @@ recovered-keeps pin w = go (counted 9 1 pin w)
         rw (c .there)
         (and-then w v (step (sample true false pin) v) (pulses-keep (suc (c .n)) pin w) (start-keeps pin v))
 
--- recovery changes no array byte and none of PPEN, BL, RPEL and PEL, whatever the chip
+-- recovery changes no array byte, none of PPEN, BL, RPEL and PEL, and no spoil byte, whatever the chip
 pub recovery-keeps : (pin : Bool) (w : World) → Unchanged w (recovered pin w)
 recovery-keeps pin w =
     let k : Keeps w (recovered pin w) = recovered-keeps pin w in
-    record { array = k .array; register = k .register; part = k .part; select = k .select }
+    record { array = k .array; register = k .register; part = k .part; select = k .select; spoil = k .spoil }
 
 -- pulses lead from a chip in range to one in range
 pulses-fit : (n : ℕ) (pin : Bool) (w : World) → chipFits (w .chip) ≡ true → chipFits (afterPulses n pin w .chip) ≡ true

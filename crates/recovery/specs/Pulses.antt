@@ -4,7 +4,7 @@
 -- |---|---|
 -- | `afterPulses n` | the world after n pulses |
 -- | `FirstHigh` | the number of the first pulse with a high line after it, and the world there |
--- | `Unchanged` | two worlds with one array, part, select and register (PPEN, BL, RPEL and PEL) |
+-- | `Unchanged` | two worlds with one array, part, select, register (PPEN, BL, RPEL and PEL) and spoil byte |
 use Prim.Native.Nat.{ℕ, zero, suc, _≤_, _<_}
 use mathlib.Core.Bool.{Bool, true, false}
 use mathlib.Core.Path.{_≡_}
@@ -30,3 +30,4 @@ pub record Unchanged (before after : World) : Type 0 where
   pub register : after .chip .register ≡ before .chip .register
   pub part : after .chip .part ≡ before .chip .part
   pub select : after .chip .select ≡ before .chip .select
+  pub spoil : after .chip .spoil ≡ before .chip .spoil

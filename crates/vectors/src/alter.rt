@@ -33,7 +33,7 @@ fn counted(n: u8) -> Load {
     load
 }
 
-// The chip with a field at a number: 0 part, 1 select, 2 BL, 3 counter (times 256), 4 phase and bits, 5 count, 6 busy.
+// The chip with a field at a number: 0 part, 1 select, 2 BL, 3 counter (times 256), 4 phase and bits, 5 count, 6 busy, 7 spoil.
 pub(crate) fn altered(chip: Chip, field: u8, n: u8) -> Chip {
     let mut c = chip;
     match field {
@@ -62,9 +62,10 @@ pub(crate) fn altered(chip: Chip, field: u8, n: u8) -> Chip {
             c.load = load;
             c
         }
-        _ => {
+        6 => {
             c.busy = n == 1;
             c
         }
+        _ => c.with_spoil(n),
     }
 }

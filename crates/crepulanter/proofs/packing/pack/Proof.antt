@@ -1,6 +1,6 @@
 -- The rows of `bytesOf` are copied one behind the other, so that after each the bytes up to its end are in place. Assumes nothing.
 use Prim.Native.Nat.{ℕ}
-use mathlib.Core.List.{[], append-assoc}
+use mathlib.Core.List.{[], _∷_, append-assoc}
 use mathlib.Core.Path.{_≡_, refl, sym, _∙_}
 use native.Mathlib.Omega.{arith}
 use borrow.Author.Needs.{needs}
@@ -22,17 +22,19 @@ copy-at-requires-3 c κs =
 returns : tie.Need-returns
 unfolding bytesOf
 returns c =
-    let third = c .before in
+    let fourth = c .before in
+    let third = fourth .before .before .before .before in
     let second = third .before .before .before .before in
     let first = second .before .before .before .before in
     let places = first .before .before .before in
     let head = places .before in
-    let load = head .before .before .before .before .args .chip .load .bytes in
+    let chip = head .before .before .before .before .args .chip in
     let none : Front 0 [] (replicate at.size 0) = record { sized = length-replicate {A = ℕ} at.size 0; placed = refl } in
     let one = front-more (head .head-bytes .result) at.places none (search needs) (omega arith) (first .copy-at .ensures) in
     let two = front-more (places .flag-bytes .result) 32 one (search needs) (omega arith) (second .copy-at2 .ensures) in
-    let three = front-more load 32 two (sym (load-long (third .before))) (omega arith) (third .copy-at3 .ensures) in
-    front-end three ∙ simp (head .head-bytes .ensures, places .flag-bytes .ensures, append-assoc)
+    let three = front-more (chip .load .bytes) 32 two (sym (load-long (third .before))) (omega arith) (third .copy-at3 .ensures) in
+    let four = front-more (chip .spoil ∷ []) 1 three refl (omega arith) (fourth .copy-at4 .ensures) in
+    front-end four ∙ simp (head .head-bytes .ensures, places .flag-bytes .ensures, append-assoc)
 
 pub pack-spec : {M : Type 1} → statement M
 pack-spec =
@@ -49,4 +51,7 @@ pack-spec =
     (λ c. search needs)
     load-long
     copy-at-requires-3
+    (λ c. search needs)
+    (λ c. search needs)
+    (λ c κs. search needs)
     returns)

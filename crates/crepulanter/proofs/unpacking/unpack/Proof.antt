@@ -7,7 +7,7 @@ use Rattle.crepulanter.proofs.unpacking.unpack.Tie as tie
 returns : tie.Need-returns
 unfolding chipOf
 returns c =
-    let counted = c .before .before .before .before .before .before .before .before .before .before .before in
+    let counted = c .before .before .before .before .before .before .before .before .before .before .before .before in
     let loaded = counted .before .before .before in
     let placed = loaded .before in
     let phased = placed .before .before in
@@ -28,6 +28,7 @@ unpack-spec =
     (λ c. search needs)
     (λ c. search needs)
     (λ c κs. search needs)
+    (λ c. search needs)
     (λ c. search needs)
     (λ c. search needs)
     (λ c. search needs)

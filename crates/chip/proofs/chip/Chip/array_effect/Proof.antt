@@ -11,8 +11,14 @@ array-effect-spec =
     tie.close
     (tie.spec
     (λ c κs. search needs)
-    (λ c. simp (sym (c .before .partial .ensures) ∙ c .if1 .taken))
     (λ c κs. search needs)
     (λ c κs. search needs)
-    (λ c. simp (rw (c .before .before .sector-start .ensures) at (sym (c .before .is-locked .ensures) ∙ c .if2 .taken), sym (c .before .before .before .before .partial .ensures) ∙ c .before .before .before .if1 .left))
-    (λ c. simp (rw (c .before .before .sector-start .ensures) at (sym (c .before .is-locked .ensures) ∙ c .if2 .left), sym (c .before .before .before .before .partial .ensures) ∙ c .before .before .before .if1 .left)))
+    (λ c. simp (rw (c .before .before .before .sector-start .ensures) at (sym (c .before .before .is-locked .ensures) ∙ c .if1 .taken)))
+    (λ c.
+    let tested = c .before in
+    let unlocked = rw (tested .before .before .before .sector-start .ensures) at (sym (tested .before .before .is-locked .ensures) ∙ tested .if1 .left) in
+    simp (sym (tested .before .partial .ensures) ∙ c .if2 .taken, unlocked))
+    (λ c.
+    let tested = c .before in
+    let unlocked = rw (tested .before .before .before .sector-start .ensures) at (sym (tested .before .before .is-locked .ensures) ∙ tested .if1 .left) in
+    simp (sym (tested .before .partial .ensures) ∙ c .if2 .left, unlocked)))

@@ -29,8 +29,14 @@ stop-spec =
     (simp (c .before .none .ensures, effect), simp effect))
     (λ c. search needs)
     (λ c.
-    let stored = c .before .before .before in
-    let started = stored .before .before .before in
-    let told = started .before .before in
-    let effect = sym (told .before .before .stop-effect .ensures) ∙ told .effect3 .given .1 in
-    (simp (c .none2 .ensures, effect), simp (stored .store .ensures, started .sector-start .ensures, effect))))
+    let cycle = c .before .before in
+    let told = cycle .before .before in
+    let effect = sym (told .before .before .stop-effect .ensures) ∙ told .enum-told .given .1 in
+    (simp (cycle .cycle .ensures .0, effect), simp (cycle .cycle .ensures .1, effect)))
+    (λ c. search needs)
+    (λ c.
+    let cycle = c .before .before in
+    let full = cycle .before in
+    let told = full .before .before in
+    let effect = sym (told .before .before .stop-effect .ensures) ∙ told .enum-told2 .given .1 in
+    (simp (cycle .cycle2 .ensures .0, effect), simp (cycle .cycle2 .ensures .1, full .full .ensures, effect))))
