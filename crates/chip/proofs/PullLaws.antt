@@ -78,7 +78,7 @@ turned-busy e c xs idle =
     (λ m ys scl line quiet. quiet)
     (λ phase counter mark load note m busy. absurd (false≢true (sym idle ∙ busy)))
     (λ stopped marks busy. refl)
-    (λ short load stopped writable busy. refl)
+    (λ short counted stopped writable busy. refl)
     (λ done busy. absurd (false≢true busy))
     (λ up busy. refl)
 

@@ -34,7 +34,7 @@ next-within e c xs f =
     (λ m ys scl line g. g)
     (λ phase counter mark load note m. m .fits f)
     (λ stopped marks. rested-within c _ 0x0000 (written-bl (c .register) (getD (c .load .bytes) 0 0) (pinHigh e) (f .bl)) (omega arith) f)
-    (λ short load stopped writable. rested-within c (c .register .bl) (c .counter) (f .bl) (f .counter) f)
+    (λ short counted stopped writable. rested-within c (c .register .bl) (c .counter) (f .bl) (f .counter) f)
     (λ done. f)
     (λ up. power-fits c f)
 
@@ -50,7 +50,7 @@ next-same e c xs =
     (λ m ys scl line same. same)
     (λ phase counter mark load note m. (refl, refl, refl))
     (λ stopped marks. (refl, refl, refl))
-    (λ short load stopped writable. (refl, refl, refl))
+    (λ short counted stopped writable. (refl, refl, refl))
     (λ done. (refl, refl, refl))
     (λ up. (refl, refl, refl))
 
@@ -76,6 +76,6 @@ next-bytes e c xs b =
     (λ m ys scl line all. all)
     (λ phase counter mark load note m. (m .octets (b .0), b .1, b .2))
     (λ stopped marks. (rested-octets, b .1, b .2))
-    (λ short load stopped writable. (rested-octets, stored-bytes 32 xs (sectorStart (c .counter)) _ (b .1) (cycle-bytes c short (b .0) (b .2)), b .2))
+    (λ short counted stopped writable. (rested-octets, stored-bytes 32 xs (sectorStart (c .counter)) _ (b .1) (cycle-bytes c short (b .0) (b .2)), b .2))
     (λ done. b)
     (λ up. (rested-octets, b .1, b .2))

@@ -33,7 +33,7 @@ view e c xs =
     (λ m ys scl line did. did)
     (λ phase counter mark load note m. nothing (record { array = refl; register = refl; same = refl; silent = m .silent }))
     (λ stopped marks. change (record { stopped = stopped; marks = marks; array = refl; wrote = refl }))
-    (λ short load stopped writable. began short load (record { stopped = stopped; writable = writable; array = refl; register = refl; began = refl }))
+    (λ short counted stopped writable. began short counted (record { stopped = stopped; writable = writable; array = refl; register = refl; began = refl }))
     (λ event. finish (record { event = event; array = refl; register = refl; ended = refl; silent = refl }))
     (λ event. clear (record { event = event; array = refl; register = refl; ended = refl; silent = refl }))
   where
