@@ -39,13 +39,14 @@ static void record(const char *file, int line, uint8_t event)
     board.trace[board.trace_len++] = event;
 }
 
-/* One event, with no program-done of the board's own. */
+/* One event, with no program-done of the board's own; the map follows what it writes. */
 static void plain_event(const char *file, int line, uint8_t event)
 {
     uint8_t answer;
 
     record(file, line, event);
-    board_taken_at(file, line, "crep_event", crep_event(&board.chip, board.array, sizeof board.array, event, &answer));
+    board_taken_at(file, line, "crep_map_event", crep_map_event(&board.chip, board.array, sizeof board.array, board.map,
+                                                                sizeof board.map, event, &answer));
     if (CREP_NOTE(answer) != CREP_NOTE_NONE)
         board.note = CREP_NOTE(answer);
 }
@@ -99,6 +100,12 @@ static void let_go(const char *file, int line)
     board_wires_at(file, line, 1, 1);
 }
 
+void board_map_at(const char *file, int line)
+{
+    board_taken_at(file, line, "crep_map_build",
+                   crep_map_build(board.array, sizeof board.array, board.map, sizeof board.map));
+}
+
 void board_new_at(const char *file, int line, uint8_t part, uint8_t select)
 {
     uint8_t *trace = board.trace;
@@ -106,6 +113,7 @@ void board_new_at(const char *file, int line, uint8_t part, uint8_t select)
 
     memset(&board, 0, sizeof board);
     memset(board.array, 0xff, sizeof board.array);
+    board_map_at(file, line);
     board.trace = trace;
     board.trace_room = room;
     board_taken_at(file, line, "crep_new", crep_new(&board.chip, part, select));

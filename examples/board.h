@@ -20,10 +20,11 @@
 
 #define BOARD_NEVER (-1)                /* for polls: cycles end by board_done alone */
 
-/* The board. All of it may be looked at; chip, array, pin, polls and the trace may be set. */
+/* The board. All of it may be looked at; chip, array (then its map), pin, polls and the trace may be set. */
 struct board {
     struct crep_chip chip;
     uint8_t array[CREP_ARRAY];
+    uint8_t map[CREP_MAP];              /* which sectors are used; kept true. After setting array bytes: board_map() */
     int scl, sda;                       /* the driver's pins: 0 pulls, 1 lets go */
     int pin;                            /* level of the protect pin in the samples to come */
     int polls;                          /* STARTs that a cycle lasts: 0 it ends at once; BOARD_NEVER */
@@ -53,6 +54,9 @@ int board_line(void);
 #define board_done() board_event_at(__FILE__, __LINE__, CREP_DONE)
 #define board_power_up() board_power_up_at(__FILE__, __LINE__)
 
+/* Builds the map again, after the test has set bytes of the array itself. */
+#define board_map() board_map_at(__FILE__, __LINE__)
+
 /* crep_recover on the chip as it was left; the pins follow. Returns the pulses. */
 #define board_recover() board_recover_at(__FILE__, __LINE__)
 
@@ -67,6 +71,7 @@ void board_new_at(const char *file, int line, uint8_t part, uint8_t select);
 void board_wires_at(const char *file, int line, int scl, int sda);
 void board_event_at(const char *file, int line, uint8_t event);
 void board_power_up_at(const char *file, int line);
+void board_map_at(const char *file, int line);
 int board_recover_at(const char *file, int line);
 void board_taken_at(const char *file, int line, const char *call, uint8_t refusal);
 

@@ -129,6 +129,52 @@ static void rpel_must_be_clear(void **state)
     assert_int_equal(board.chip.bl, 0);
 }
 
+static unsigned first_free(void)
+{
+    uint16_t sector;
+
+    board_taken(crep_map_first(board.map, sizeof board.map, &sector));
+    return sector;
+}
+
+static void assert_map_is_true(void)
+{
+    uint8_t built[CREP_MAP];
+
+    board_taken(crep_map_build(board.array, sizeof board.array, built, sizeof built));
+    assert_memory_equal(built, board.map, sizeof built);
+}
+
+/* Two gates go where the map says, beside one that was there. */
+static void gates_are_added_where_it_is_free(void **state)
+{
+    memcpy(board.array + CREP_RECORD, *state, CREP_RECORD);
+    board_map();
+    assert_int_equal(first_free(), 0);
+    assert_true(memory_send_record(SELECT, 0, *state));
+    assert_int_equal(first_free(), 2);
+    assert_true(memory_send_record(SELECT, 2, *state));
+    assert_int_equal(first_free(), 3);
+    assert_map_is_true();
+}
+
+/* A full memory has no free sector, and crep_send refuses the 512 that says so. Bytes FFh free a sector. */
+static void a_full_memory_has_none(void **state)
+{
+    static uint8_t events[CREP_SEND], empty[CREP_RECORD];
+    uint16_t n;
+
+    memset(board.array, 0x00, sizeof board.array);
+    board_map();
+    assert_int_equal(first_free(), CREP_NO_SECTOR);
+    assert_int_equal(crep_send(SELECT, CREP_NO_SECTOR, *state, CREP_RECORD, events, sizeof events, &n),
+                     CREP_REFUSED_GATE);
+    memset(empty, 0xff, sizeof empty);
+    assert_true(memory_write_sector(SELECT, 511, empty));
+    assert_int_equal(first_free(), 511);
+    assert_map_is_true();
+}
+
 /* What was recorded, run by crep_run on a new chip, ends in the same chip and array. */
 static void a_trace_runs_again(void **state)
 {
@@ -187,6 +233,8 @@ int main(void)
         cmocka_unit_test_setup(a_locked_sector_stays, new_board),
         cmocka_unit_test_setup(the_kit_sends_a_record, new_board),
         cmocka_unit_test_setup(rpel_must_be_clear, new_board),
+        cmocka_unit_test_setup(gates_are_added_where_it_is_free, new_board),
+        cmocka_unit_test_setup(a_full_memory_has_none, new_board),
         cmocka_unit_test_setup(a_trace_runs_again, new_board),
         cmocka_unit_test_setup(one_pin_at_a_time, new_board),
     };

@@ -1,8 +1,8 @@
 /*
  * A firmware's test on the host: the driver of driver.c runs on the board of board.c in place of a panel. It writes a
- * gate's record and reads it back, shows what a label of 27 characters does, hangs the bus and frees it, and plays the
- * events of crep_send. Prints a report; the exit status is 1 where a step did not go as expected, 2 where the test
- * itself went wrong.
+ * gate's record and reads it back, shows what a label of 27 characters does, hangs the bus and frees it, plays the
+ * events of crep_send, and adds a gate in the first free sector. Prints a report; the exit status is 1 where a step did
+ * not go as expected, 2 where the test itself went wrong.
  */
 #include <stdio.h>
 #include <string.h>
@@ -10,7 +10,7 @@
 #include "board.h"
 #include "driver.h"
 
-enum { GATE = 7, SENT = 17, LOCKED = 511, SELECT = 2, POLLS = 3 };
+enum { GATE = 7, SENT = 17, LOCKED = 511, OLD_GATES = 3, SELECT = 2, POLLS = 3 };
 
 static const char label[] = "NORTH YARD";
 static const char long_label[] = "NORTH YARD, DELIVERIES ONLY";
@@ -202,6 +202,55 @@ static void report_sender(void)
     printf("\n");
 }
 
+/* The first free sector, from the board's map alone. */
+static unsigned first_free(void)
+{
+    uint16_t found;
+
+    board_taken(crep_map_first(board.map, sizeof board.map, &found));
+    return found;
+}
+
+/* The map that the board has kept is the one that is built from its array. */
+static int map_is_true(void)
+{
+    uint8_t built[CREP_MAP];
+
+    board_taken(crep_map_build(board.array, sizeof board.array, built, sizeof built));
+    return memcmp(built, board.map, sizeof built) == 0;
+}
+
+/* Gates in the first sectors, put there past the wires as from a saved image. */
+static void load_image(void)
+{
+    int i;
+
+    for (i = 0; i < OLD_GATES; i++)
+        memcpy(board.array + i * CREP_RECORD, record, CREP_RECORD);
+    board_map();
+}
+
+static void report_map(void)
+{
+    static const uint8_t empty[CREP_RECORD - 1] = { 0 };
+    unsigned gate;
+
+    printf("5. A gate is added in the first free sector\n");
+    board_new(CREP_X24F128, SELECT);
+    board.polls = POLLS;
+    load_image();
+    gate = first_free();
+    step(gate == OLD_GATES, "an image with gates 0 to 2, its map built: sector 3 is the first free");
+    step(memory_send_record(SELECT, (uint16_t)gate, record) && board_note() == CREP_NOTE_STORED && comes_back(gate),
+         "the record is sent there: stored (note 1), read back over the wires");
+    step(first_free() == gate + 1 && map_is_true(),
+         "the map has followed: sector 4 is next, and building it again gives the same");
+    step(memory_write(SELECT, CREP_RECORD, empty, sizeof empty) && board_note() == CREP_NOTE_NOT_32
+         && memory_wait(SELECT, 100) == POLLS + 1 && first_free() == 1 && map_is_true(),
+         "31 bytes to sector 1 spoil it with FFh (note 5): the gate is gone, and its sector the first free");
+    printf("\n");
+}
+
 int main(void)
 {
     printf("Gate memory on the bench: X24128, select %d, gate %d in sector %d\n\n", SELECT, GATE, GATE);
@@ -212,6 +261,7 @@ int main(void)
     report_other_part();
     report_hang();
     report_sender();
+    report_map();
     if (wrong)
         printf("%d steps WRONG\n", wrong);
     else

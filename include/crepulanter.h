@@ -1,6 +1,6 @@
 /*
- * crepulanter.h: a model of the X24128 and X24F128 memory chips, gate records and the events that send one, for tests
- * that run on the host.
+ * crepulanter.h: a model of the X24128 and X24F128 memory chips, gate records, the events that send one and the map of
+ * free sectors, for tests that run on the host.
  * C99 or C++98 and later; the library behind it, libcrepulanter.a, links on x86-64 Linux.
  *
  * Let your bit-banging driver call crep_event in place of its port pins, and read in the answers what the chip would
@@ -51,7 +51,7 @@
  * POINTERS: each points to what its type says and is never null. A pointer that comes with a length is read and
  * written within that length alone; with length 0 it may be anything. No two of the buffers and numbers of one call
  * overlap, but for two that are const. Nothing is allocated or kept between calls, so chips are copied by `=` and
- * calls on different chips and arrays may run at once.
+ * calls on different chips, arrays and maps may run at once.
  */
 #ifndef CREPULANTER_H
 #define CREPULANTER_H
@@ -63,8 +63,8 @@
 extern "C" {
 #endif
 
-#define CREP_VERSION "0.5.0"
-#define CREP_VERSION_NUMBER 500         /* the same for #if: 10000 * first + 100 * second + third */
+#define CREP_VERSION "0.6.0"
+#define CREP_VERSION_NUMBER 600         /* the same for #if: 10000 * first + 100 * second + third */
 
 /* Before a call whose result must not be dropped: the compiler warns where it is. */
 #if defined(__GNUC__)
@@ -78,9 +78,11 @@ extern "C" {
 /* ---- Sizes ---- */
 
 #define CREP_ARRAY 16384        /* bytes of the array: 512 sectors of 32 */
+#define CREP_SECTORS 512        /* sectors of the array */
+#define CREP_MAP 64             /* bytes of a map: a bit for each sector */
 #define CREP_RECORD 32          /* bytes of a gate's record: one sector */
 #define CREP_LABEL 24           /* the longest label */
-#define CREP_TRACE 65536        /* the longest trace of one crep_run */
+#define CREP_TRACE 65536        /* the longest trace of one crep_run or crep_map_run */
 #define CREP_PULSES 10          /* the most pulses that crep_recover makes */
 #define CREP_SEND 713           /* events that crep_send writes */
 #define CREP_STATE 82           /* bytes of a struct crep_chip */
@@ -118,14 +120,18 @@ extern "C" {
  *     crep_event          1 2 6                  crep_record_limits  7 12 13 14 10 11
  *     crep_run            1 2 4 5 6              crep_record_read    7 12 13 14
  *     crep_recover        1 2                    crep_name           none
- *     crep_send           7 12 13 14 15 16 17
+ *     crep_send           7 12 13 14 15 16 17    crep_map_build      1 18
+ *     crep_map_event      1 18 2 6               crep_map_first      18
+ *     crep_map_run        1 18 2 4 5 6
  *
- * A refused call runs nothing and changes neither the chip, nor the array, nor any buffer. What it does write:
+ * A refused call runs nothing and changes neither the chip, nor the array, nor any buffer, the map among them. What it
+ * does write:
  *     crep_new          the standard chip (X24F128, select 0) into *chip
- *     crep_event        1 into *answer (line high, note 0)
+ *     crep_event        1 into *answer (line high, note 0); crep_map_event too
  *     crep_recover      0 into *pulses
  *     crep_record_read  0 into each of its five numbers
  *     crep_send         0 into *events
+ *     crep_map_first    CREP_NO_SECTOR into *sector
  */
 #define CREP_OK 0
 #define CREP_REFUSED_ARRAY_LENGTH 1     /* array_len is not 16384 */
@@ -145,6 +151,7 @@ extern "C" {
 #define CREP_REFUSED_GATE 15            /* gate above 511 */
 #define CREP_REFUSED_SELECT 16          /* crep_send: select above 7 */
 #define CREP_REFUSED_EVENTS_LENGTH 17   /* crep_send: trace_len below 713 */
+#define CREP_REFUSED_MAP_LENGTH 18      /* map_len is not 64 */
 
 /* ---- The chip ---- */
 
@@ -284,6 +291,53 @@ uint8_t crep_name(const uint8_t *record, size_t record_len, const uint8_t *stand
 CREP_CHECKED uint8_t crep_send(uint8_t select, uint16_t gate, const uint8_t *record, size_t record_len,
                                uint8_t *trace, size_t trace_len, uint16_t *events);
 
+/* ---- The map of free sectors ---- */
+
+/*
+ * A map is CREP_MAP bytes that you keep beside the array, a bit for each sector: sector k is bit k % 8 of byte k / 8,
+ * bit 0 the lowest. It is set where the sector's record is not free: 32 bytes of FFh are free, a bad record is not.
+ *
+ * Build it once with crep_map_build; from then on crep_map_event and crep_map_run, in place of crep_event and crep_run,
+ * keep it true. It falls behind where crep_event or crep_run runs on the same array, or where you write array bytes
+ * yourself: build it again then. crep_recover writes no array byte and needs no map.
+ */
+#define CREP_NO_SECTOR 512      /* crep_map_first: no sector is free */
+
+/*
+ * Writes the map of an array over all 64 bytes, whatever they were.
+ * Refuses with 1, 18; the map then keeps its bytes.
+ */
+CREP_CHECKED uint8_t crep_map_build(const uint8_t *array, size_t array_len, uint8_t *map, size_t map_len);
+
+/*
+ * The first free sector, 0 to 511, or CREP_NO_SECTOR where none is: the first bit of the map that is 0. With a true map
+ * it is the sector that reading all 512 records would find. It reads the map alone, true or not, and needs neither chip
+ * nor array: a routine for the firmware, as crep_send is.
+ * The map says nothing of locks: a free sector may be a locked one.
+ * Refuses with 18; *sector is then CREP_NO_SECTOR and not 0, so that a caller who overlooks the refusal is not led to
+ * the sector of gate 0; crep_send refuses gate 512 with 15.
+ */
+CREP_CHECKED uint8_t crep_map_first(const uint8_t *map, size_t map_len, uint16_t *sector);
+
+/*
+ * crep_event with a map beside the array: chip, array and *answer become what crep_event makes of them. After note 1 or
+ * 5 the bit of the sector that was written, the counter's, is set from the array: 1 where it is not free now, 0 where
+ * it is, as after a spoil with FFh or a store of 32 bytes FFh. No other event changes the map, and no other bit of it
+ * ever changes, true or not: a map that was true before is true after.
+ * Refuses with 1, 18, 2, 6; *answer is then 1.
+ */
+CREP_CHECKED uint8_t crep_map_event(struct crep_chip *chip, uint8_t *array, size_t array_len,
+                                    uint8_t *map, size_t map_len, uint8_t event, uint8_t *answer);
+
+/*
+ * crep_run with a map beside the array: as crep_map_event for one event after the other. What crep_send wrote runs here
+ * too, and then the map knows the new gate.
+ * Refuses with 1, 18, 2, 4, 5, 6 before the first event, so a refused trace runs nothing.
+ */
+CREP_CHECKED uint8_t crep_map_run(struct crep_chip *chip, uint8_t *array, size_t array_len,
+                                  uint8_t *map, size_t map_len, const uint8_t *trace, size_t trace_len,
+                                  uint8_t *answers, size_t answers_len);
+
 /* ---- Texts ---- */
 
 /* What a note says, in words. */
@@ -324,10 +378,11 @@ static inline const char *crep_refusal_text(int refusal)
         "length, label, padding or limits against the layout",
         "gate number above 511",
         "select above 7",
-        "buffer shorter than 713 events"
+        "buffer shorter than 713 events",
+        "map is not 64 bytes"
     };
 
-    return refusal >= 0 && refusal <= CREP_REFUSED_EVENTS_LENGTH ? texts[refusal] : "no such refusal";
+    return refusal >= 0 && refusal <= CREP_REFUSED_MAP_LENGTH ? texts[refusal] : "no such refusal";
 }
 
 /* The library reads a chip as CREP_STATE bytes in a row. */

@@ -1,6 +1,7 @@
 /*
  * The paper's worked cases 1 to 13, its errors that look right, demand 3 on random noise, and what the requests for the
- * sender and for short loads say, on the model and on the library. What is expected stands here as the paper gives it.
+ * sender, for short loads and for the map say, on the model and on the library. What is expected stands here as the
+ * paper gives it.
  */
 #include <stdio.h>
 #include <string.h>
@@ -595,6 +596,197 @@ static int sender_refuses(const struct kit *kit)
         && refusal_of(kit, 7, 511, north, 32, 713) == 0 && refusal_of(kit, 7, 511, north, 32, 714) == 0;
 }
 
+/* ---- The map of free sectors ---- */
+
+static uint8_t map[CREP_MAP + 1];       /* one byte more than is lent */
+
+/* Every sector of the bench is used, or free, and the map is built, with rubbish before it and beside it. */
+static int open_map(const struct kit *kit, uint8_t part, uint8_t byte)
+{
+    open_bench(kit, part);
+    memset(bench.array, byte, CREP_ARRAY);
+    memset(map, 0x5a, sizeof map);
+    return kit->map_build(bench.array, CREP_ARRAY, map, CREP_MAP) == 0 && map[CREP_MAP] == 0x5a;
+}
+
+/* The first free sector by the map, where it is the map of the array and a full reading finds the same; else 1000. */
+static unsigned first_free(const struct kit *kit)
+{
+    int32_t closed, opened, travel;
+    uint8_t length, empty = 0, built[CREP_MAP];
+    uint16_t sector;
+    unsigned k;
+
+    for (k = 0; k < 512 && !empty; k++)
+        if (kit->record_read(bench.array + 32 * k, 32, &closed, &opened, &travel, &length, &empty) != 0)
+            empty = 0;
+    k -= empty;
+    if (kit->map_build(bench.array, CREP_ARRAY, built, CREP_MAP) != 0 || memcmp(built, map, CREP_MAP) != 0)
+        return 1000;
+    return kit->map_first(map, CREP_MAP, &sector) == 0 && sector == k ? k : 1000;
+}
+
+/* None free is 512; erased it is 0; alone free 0, 7, 8, 255, 256 and 511 are found, and each has its own bit. */
+static int map_finds(const struct kit *kit)
+{
+    static const unsigned sectors[] = { 0, 7, 8, 255, 256, 511 };
+    int good = open_map(kit, 0, 0x00) && first_free(kit) == 512 && open_map(kit, 0, 0xff) && first_free(kit) == 0;
+    size_t i;
+    unsigned k;
+
+    for (i = 0; i < sizeof sectors / sizeof sectors[0]; i++) {
+        good = good && open_map(kit, 0, 0x00);
+        memset(bench.array + 32 * sectors[i], 0xff, 32);
+        good = good && kit->map_build(bench.array, CREP_ARRAY, map, CREP_MAP) == 0 && first_free(kit) == sectors[i];
+        for (k = 0; k < 512; k++)
+            good = good && (map[k / 8] >> k % 8 & 1) == (k != sectors[i]);
+    }
+    return good;
+}
+
+/* A byte alone that is not FFh makes its sector used, wherever it stands. */
+static int one_byte_is_used(const struct kit *kit)
+{
+    int i, good = 1;
+
+    for (i = 0; i < 32; i++) {
+        good = good && open_map(kit, 0, 0xff);
+        bench.array[9 * 32 + i] = 0xfe;
+        good = good && kit->map_build(bench.array, CREP_ARRAY, map, CREP_MAP) == 0 && map[0] == 0 && map[1] == 2;
+    }
+    return good;
+}
+
+/* Runs the trace with the map; the last event's note, or -1 where it is refused. */
+static int mapped_note(void)
+{
+    size_t n = bench.wire.len;
+
+    if (bench.kit->map_run(&bench.chip, bench.array, CREP_ARRAY, map, CREP_MAP, bench.trace, n, bench.answers,
+                           CREP_TRACE) != 0)
+        return -1;
+    wire_open(&bench.wire, bench.trace, sizeof bench.trace);
+    return n ? CREP_NOTE(bench.answers[n - 1]) : 0;
+}
+
+/* n bytes to an address of a chip with PEL 1, and the program-done after it. */
+static int mapped_write(unsigned address, uint8_t byte, size_t n)
+{
+    uint8_t bytes[32];
+    int note;
+
+    memset(bytes, byte, sizeof bytes);
+    bench.chip.pel = 1;
+    wire_write(&bench.wire, 0, address, bytes, n);
+    note = mapped_note();
+    wire_event(&bench.wire, 8);
+    return mapped_note() == 0 ? note : -1;
+}
+
+/* A store takes a sector, 32 bytes FFh free it, and so does a spoil with FFh; spoilt with 00h it is taken. */
+static int map_follows(const struct kit *kit)
+{
+    int good = open_map(kit, 1, 0xff) && mapped_write(0, 0x11, 32) == 1 && first_free(kit) == 1
+        && mapped_write(0, 0xff, 32) == 1 && first_free(kit) == 0 && mapped_write(0, 0x11, 32) == 1
+        && first_free(kit) == 1 && mapped_write(0, 0x11, 31) == 5 && first_free(kit) == 0;
+
+    bench.chip.spoil = 0x00;
+    good = good && mapped_write(0, 0x11, 31) == 5 && first_free(kit) == 1;
+    bench.chip.spoil = 0xff;
+    good = good && open_map(kit, 1, 0x11) && mapped_write(0x3fe0, 0x11, 1) == 5 && first_free(kit) == 511;
+    return good && mapped_write(0x3fff, 0x22, 32) == 1 && first_free(kit) == 512;
+}
+
+/* Locked, latch, register cycle, program-done and power-up change no bit, not even a wrong one. */
+static int map_stays(const struct kit *kit)
+{
+    static const uint8_t commands[] = { 0x02, 0x06, 0x8a };
+    uint8_t before[CREP_MAP];
+    int i, good = open_map(kit, 1, 0xff);
+
+    for (i = 0; i < CREP_MAP; i++)
+        map[i] = before[i] = (uint8_t)(0xa5 + i);
+    for (i = 0; i < 3; i++) {
+        wire_register(&bench.wire, 0, commands[i]);
+        good = good && mapped_note() == (i == 2 ? 2 : 3);
+    }
+    wire_event(&bench.wire, 8);
+    wire_event(&bench.wire, 9);
+    good = good && mapped_note() == 0 && mapped_write(0x3000, 0x11, 32) == 4 && mapped_write(0x3fe0, 0x11, 31) == 4;
+    return good && memcmp(map, before, CREP_MAP) == 0;
+}
+
+/* Whether the map still has its rubbish, and the chip and the array what they had. */
+static int nothing_written(const struct crep_chip *chip)
+{
+    int i, good = memcmp(&bench.chip, chip, sizeof *chip) == 0;
+
+    for (i = 0; i <= CREP_MAP; i++)
+        good = good && map[i] == 0x5a;
+    for (i = 0; i < CREP_ARRAY; i++)
+        good = good && bench.array[i] == 0xff;
+    return good;
+}
+
+/* An event and a trace of it with these lengths and this BL: the refusal, where both give it (but for 5, which is the
+ * trace's alone) and write nothing; else 255. */
+static uint8_t map_refusal(const struct kit *kit, size_t array_len, size_t map_len, uint8_t bl, uint8_t event,
+                           size_t room)
+{
+    struct crep_chip chip;
+    uint8_t one, whole, answer = 0;
+
+    open_bench(kit, 0);
+    memset(map, 0x5a, sizeof map);
+    wire_event(&bench.wire, event);
+    bench.chip.bl = bl;
+    chip = bench.chip;
+    whole = kit->map_run(&bench.chip, bench.array, array_len, map, map_len, bench.trace, 1, bench.answers, room);
+    one = kit->map_event(&bench.chip, bench.array, array_len, map, map_len, event, &answer);
+    if (one != whole && !(whole == 5 && (one == 6 || one == 0)))
+        return 255;
+    return nothing_written(&chip) && (one == 0 || answer == 1) ? whole : 255;
+}
+
+/* 1, 18, 2, then 5 and 6, each before the next; first free is 512 where it is refused. */
+static int map_refuses(const struct kit *kit)
+{
+    static const size_t lengths[] = { 0, 63, 65 };
+    uint16_t sector;
+    size_t i;
+    int good = map_refusal(kit, 16383, 63, 4, 10, 0) == 1 && map_refusal(kit, 16385, 64, 0, 3, 1) == 1
+        && map_refusal(kit, 16384, 64, 4, 10, 0) == 2 && map_refusal(kit, 16384, 64, 3, 10, 0) == 5
+        && map_refusal(kit, 16384, 64, 3, 10, 1) == 6;
+
+    for (i = 0; i < 3; i++) {
+        sector = 7;
+        good = good && map_refusal(kit, 16384, lengths[i], 4, 10, 0) == 18
+            && map_refusal(kit, 16384, lengths[i], 0, 3, 1) == 18 && map_refusal(kit, 0, lengths[i], 0, 3, 1) == 1
+            && kit->map_first(map, lengths[i], &sector) == 18 && sector == 512
+            && kit->map_build(bench.array, CREP_ARRAY, map, lengths[i]) == 18
+            && kit->map_build(bench.array, CREP_ARRAY - 1, map, lengths[i]) == 1 && nothing_written(&bench.chip);
+    }
+    return good && kit->map_build(bench.array, CREP_ARRAY - 1, map, CREP_MAP) == 1 && nothing_written(&bench.chip);
+}
+
+/* Gates are added where the map says until all 512 are there; then none is free and the sender refuses. */
+static int gates_are_added(const struct kit *kit)
+{
+    uint16_t sector, events;
+    unsigned k;
+    int good = open_map(kit, 1, 0xff)
+        && kit->record_write(north, sizeof north, 0, 1200, (const uint8_t *)"NORTH", 5) == 0;
+
+    for (k = 0; good && k < 512; k++) {
+        good = kit->map_first(map, CREP_MAP, &sector) == 0 && sector == k
+            && kit->send(0, sector, north, sizeof north, bench.trace, CREP_TRACE, &events) == 0;
+        bench.wire.len = CREP_SEND;
+        good = good && mapped_note() == 0 && CREP_NOTE(bench.answers[711]) == 1;
+    }
+    return good && first_free(kit) == 512 && kit->map_first(map, CREP_MAP, &sector) == 0
+        && kit->send(0, sector, north, sizeof north, bench.trace, CREP_TRACE, &events) == 15;
+}
+
 /* ---- The header ---- */
 
 /* CREP_VERSION_NUMBER is CREP_VERSION by its own rule; each refusal has a text. */
@@ -603,10 +795,11 @@ static int header_agrees(const struct kit *kit)
     int first, second, third;
 
     (void)kit;
-    return sscanf(CREP_VERSION, "%d.%d.%d", &first, &second, &third) == 3
+    return strcmp(CREP_VERSION, "0.6.0") == 0 && sscanf(CREP_VERSION, "%d.%d.%d", &first, &second, &third) == 3
         && CREP_VERSION_NUMBER == 10000 * first + 100 * second + third
         && strcmp(crep_refusal_text(17), "buffer shorter than 713 events") == 0
-        && strcmp(crep_refusal_text(18), "no such refusal") == 0;
+        && strcmp(crep_refusal_text(18), "map is not 64 bytes") == 0
+        && strcmp(crep_refusal_text(19), "no such refusal") == 0;
 }
 
 static const struct {
@@ -639,6 +832,12 @@ static const struct {
     { "-   BL 1: gate 384 stays, note 4; 383 is sent", locked_gates_stay },
     { "-   RPEL 1: the sender unlocks and stores nothing", rpel_unlocks },
     { "-   what the sender refuses, and in which order", sender_refuses },
+    { "-   first free: none, all, and each alone", map_finds },
+    { "-   one byte that is not FFh takes its sector", one_byte_is_used },
+    { "-   the map follows stores and spoils, FFh frees", map_follows },
+    { "-   the map stays in all other events", map_stays },
+    { "-   what the calls with a map refuse, and the order", map_refuses },
+    { "-   512 gates added where the map says; then none", gates_are_added },
     { "-   the header's version and refusal texts", header_agrees },
 };
 

@@ -1,6 +1,6 @@
 /*
  * Compares the library with the independent model: random and structured traces on both parts, chips in and out of
- * range, all refusals, recoveries, records, names, sendings. Stops at the first difference and prints it in full.
+ * range, all refusals, recoveries, records, names, sendings, maps. Stops at the first difference and prints it in full.
  *
  *     compare [-s SEED] [-n EVENTS] [-r ROUND]
  *
@@ -33,6 +33,12 @@ static const struct {
     { compare_record_read, 30 },
     { compare_name, 15 },
     { compare_send, 15 },
+    { compare_map_build, 1 },
+    { compare_map_first, 10 },
+    { compare_map_events, 1 },
+    { compare_map_chips, 10 },
+    { compare_map_traces, 2 },
+    { compare_map_send, 1 },
 };
 
 static int run_round(uint64_t round)

@@ -14,5 +14,11 @@ int compare_record_limits(struct chance *chance);
 int compare_record_read(struct chance *chance);
 int compare_name(struct chance *chance);
 int compare_send(struct chance *chance);                /* then its events on a chip */
+int compare_map_build(struct chance *chance);           /* then the first free sector, against a full reading */
+int compare_map_first(struct chance *chance);           /* in maps of any bytes */
+int compare_map_events(struct chance *chance);          /* a trace with a map, event by event, then whole */
+int compare_map_chips(struct chance *chance);           /* one event with a map on a random chip, in range or not */
+int compare_map_traces(struct chance *chance);          /* traces with a map that ask to be refused */
+int compare_map_send(struct chance *chance);            /* a record sent to the first free sector */
 
 #endif

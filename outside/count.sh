@@ -4,7 +4,7 @@ set -eu
 
 build=$1
 command -v valgrind > /dev/null || { echo "count: valgrind not found: nothing was counted"; exit 1; }
-for engine in 0 1 2 3 4 5; do
+for engine in 0 1 2 3 4 5 6 7; do
     for work in 0 1 2 3; do
         valgrind --tool=callgrind --callgrind-out-file=/dev/null --toggle-collect=pass "$build/speed" $engine $work \
             > "$build/count.out" 2> "$build/count.err"

@@ -171,26 +171,42 @@ static void fuzz_event(struct chance *chance)
     take_all_back(3);
 }
 
-static void fuzz_run(struct chance *chance)
+/* What a trace is lent. */
+struct lent_run {
+    struct crep_chip *chip;
+    uint8_t *array, *trace, *answers;
+    size_t array_len, trace_len, answers_len;
+};
+
+static struct lent_run lend_run(struct chance *chance)
 {
-    struct crep_chip *chip = lend_chip(chance, 0);
-    size_t array_len, n = chance_below(chance, 2000), m;
-    uint8_t *array = lend_array(chance, 1, &array_len), *trace, *answers;
+    struct lent_run l;
     struct wire wire;
+    size_t n = chance_below(chance, 2000), m;
 
     if (chance_once_in(chance, 40))
         n = CREP_TRACE - 1 + chance_below(chance, 4);
     m = chance_once_in(chance, 4) ? chance_below(chance, (uint32_t)n + 2) : n;
-    m = m > MOST ? MOST : m;
-    trace = lend(chance, 2, n);
-    answers = lend(chance, 3, m);
-    wire_open(&wire, trace, n);
-    stir_trace(chance, &wire, chip->select & 7);
+    l.chip = lend_chip(chance, 0);
+    l.array = lend_array(chance, 1, &l.array_len);
+    l.trace_len = n;
+    l.answers_len = m > MOST ? MOST : m;
+    l.trace = lend(chance, 2, l.trace_len);
+    l.answers = lend(chance, 3, l.answers_len);
+    wire_open(&wire, l.trace, n);
+    stir_trace(chance, &wire, l.chip->select & 7);
     if (n > 0 && chance_once_in(chance, 6))
-        trace[chance_below(chance, (uint32_t)n)] = chance_byte(chance);
+        l.trace[chance_below(chance, (uint32_t)n)] = chance_byte(chance);
     keep(2);
+    return l;
+}
+
+static void fuzz_run(struct chance *chance)
+{
+    struct lent_run l = lend_run(chance);
+
     doing = "crep_run";
-    check(crep_run(chip, array, array_len, trace, n, answers, m) <= 6);
+    check(crep_run(l.chip, l.array, l.array_len, l.trace, l.trace_len, l.answers, l.answers_len) <= 6);
     take_all_back(4);
 }
 
@@ -289,9 +305,70 @@ static void fuzz_send(struct chance *chance)
     take_all_back(3);
 }
 
+/* A map of 64 bytes, or 0, 63, 65 or another length, of any bytes. */
+static uint8_t *lend_map(struct chance *chance, int i, size_t *len)
+{
+    uint8_t *map;
+
+    *len = stir_length(chance, CREP_MAP, 100);
+    map = lend(chance, i, *len);
+    if (chance_once_in(chance, 2))
+        chance_fill(chance, map, *len);
+    else
+        memset(map, 0xff, *len);
+    return map;
+}
+
+static void fuzz_map_build(struct chance *chance)
+{
+    size_t n, m;
+    uint8_t *array = lend_array(chance, 0, &n), *map = lend_map(chance, 1, &m);
+
+    keep(0);
+    doing = "crep_map_build";
+    check(crep_map_build(array, n, map, m) <= 18);
+    take_all_back(2);
+}
+
+static void fuzz_map_first(struct chance *chance)
+{
+    size_t n;
+    uint8_t *map = lend_map(chance, 0, &n), refusal;
+    uint16_t *sector = (uint16_t *)(void *)lend(chance, 1, sizeof *sector);
+
+    keep(0);
+    doing = "crep_map_first";
+    refusal = crep_map_first(map, n, sector);
+    check(*sector <= CREP_NO_SECTOR && (refusal == 0 || (refusal == 18 && *sector == CREP_NO_SECTOR)));
+    take_all_back(2);
+}
+
+static void fuzz_map_event(struct chance *chance)
+{
+    struct lent l = lend_three(chance);
+    size_t n;
+    uint8_t *map = lend_map(chance, 3, &n);
+    uint8_t event = chance_once_in(chance, 20) ? chance_byte(chance) : stir_event(chance);
+
+    doing = "crep_map_event";
+    check(crep_map_event(l.chip, l.array, l.array_len, map, n, event, l.number) <= 18 && *l.number <= 15);
+    take_all_back(4);
+}
+
+static void fuzz_map_run(struct chance *chance)
+{
+    struct lent_run l = lend_run(chance);
+    size_t n;
+    uint8_t *map = lend_map(chance, 4, &n);
+
+    doing = "crep_map_run";
+    check(crep_map_run(l.chip, l.array, l.array_len, map, n, l.trace, l.trace_len, l.answers, l.answers_len) <= 18);
+    take_all_back(5);
+}
+
 static void (*const calls[])(struct chance *) = {
     fuzz_new, fuzz_event, fuzz_event, fuzz_run, fuzz_recover, fuzz_record_write, fuzz_record_limits, fuzz_record_read,
-    fuzz_name, fuzz_send,
+    fuzz_name, fuzz_send, fuzz_map_build, fuzz_map_first, fuzz_map_event, fuzz_map_run,
 };
 
 int main(int argc, char **argv)

@@ -762,3 +762,100 @@ uint8_t model_send(uint8_t select, uint16_t gate, const uint8_t *record, size_t 
     *events = (uint16_t)wire.len;
     return 0;
 }
+
+/* ---- The map of free sectors (request T-04) ---- */
+
+/* Sector k is bit k mod 8 of byte k div 8, bit 0 the lowest. */
+static unsigned byte_of(unsigned sector)
+{
+    return sector / 8;
+}
+
+static unsigned bit_of(unsigned sector)
+{
+    return 1u << sector % 8;
+}
+
+/* Its bit is set where the record is not all FFh, a bad record's too; the bits beside it stay. */
+static void map_sector(uint8_t *map, const uint8_t *array, unsigned sector)
+{
+    unsigned byte = map[byte_of(sector)] & ~bit_of(sector);
+
+    if (!is_free(array + sector * RECORD))
+        byte |= bit_of(sector);
+    map[byte_of(sector)] = (uint8_t)byte;
+}
+
+/* An array cycle has begun: it wrote the counter's sector, and no other. */
+static void map_cycle(uint8_t *map, const struct crep_chip *c, const uint8_t *array, unsigned note)
+{
+    if (note == ARRAY_CYCLE || note == SPOILT)
+        map_sector(map, array, counter_of(c) / 32);
+}
+
+/* 1, then 18; what else a call refuses comes after them. */
+static uint8_t refuse_map(size_t array_len, size_t map_len)
+{
+    if (array_len != CREP_ARRAY)
+        return 1;
+    return map_len == CREP_MAP ? 0 : 18;
+}
+
+uint8_t model_map_build(const uint8_t *array, size_t array_len, uint8_t *map, size_t map_len)
+{
+    uint8_t refusal = refuse_map(array_len, map_len);
+    unsigned sector;
+
+    if (refusal)
+        return refusal;
+    for (sector = 0; sector < CREP_SECTORS; sector++)
+        map_sector(map, array, sector);
+    return 0;
+}
+
+/* The map alone is read. None free, and a refusal, are 512. */
+uint8_t model_map_first(const uint8_t *map, size_t map_len, uint16_t *sector)
+{
+    unsigned k = 0;
+
+    *sector = CREP_NO_SECTOR;
+    if (map_len != CREP_MAP)
+        return 18;
+    while (k < CREP_SECTORS && map[byte_of(k)] & bit_of(k))
+        k++;
+    *sector = (uint16_t)k;
+    return 0;
+}
+
+uint8_t model_map_event(struct crep_chip *chip, uint8_t *array, size_t array_len, uint8_t *map, size_t map_len,
+                        uint8_t event, uint8_t *answer)
+{
+    uint8_t refusal = refuse_map(array_len, map_len);
+
+    *answer = 1;
+    if (!refusal)
+        refusal = model_event(chip, array, array_len, event, answer);
+    if (!refusal)
+        map_cycle(map, chip, array, CREP_NOTE(*answer));
+    return refusal;
+}
+
+uint8_t model_map_run(struct crep_chip *chip, uint8_t *array, size_t array_len, uint8_t *map, size_t map_len,
+                      const uint8_t *trace, size_t trace_len, uint8_t *answers, size_t answers_len)
+{
+    uint8_t refusal = refuse_map(array_len, map_len);
+    size_t i;
+
+    if (!refusal && !chip_good(chip))
+        refusal = 2;
+    if (!refusal)
+        refusal = refuse_trace(trace, trace_len, answers_len);
+    if (refusal)
+        return refusal;
+    tidy(chip);
+    for (i = 0; i < trace_len; i++) {
+        answers[i] = one_event(chip, array, trace[i]);
+        map_cycle(map, chip, array, CREP_NOTE(answers[i]));
+    }
+    return 0;
+}

@@ -21,6 +21,12 @@ uint8_t model_name(const uint8_t *record, size_t record_len, const uint8_t *stan
                    size_t *start, size_t *len, uint8_t *from_record);
 uint8_t model_send(uint8_t select, uint16_t gate, const uint8_t *record, size_t record_len,
                    uint8_t *trace, size_t trace_len, uint16_t *events);
+uint8_t model_map_build(const uint8_t *array, size_t array_len, uint8_t *map, size_t map_len);
+uint8_t model_map_first(const uint8_t *map, size_t map_len, uint16_t *sector);
+uint8_t model_map_event(struct crep_chip *chip, uint8_t *array, size_t array_len, uint8_t *map, size_t map_len,
+                        uint8_t event, uint8_t *answer);
+uint8_t model_map_run(struct crep_chip *chip, uint8_t *array, size_t array_len, uint8_t *map, size_t map_len,
+                      const uint8_t *trace, size_t trace_len, uint8_t *answers, size_t answers_len);
 
 /* One event byte in 0-9 on a chip in range, with no refusal looked for: a plain C model as one writes it. */
 uint8_t model_step(struct crep_chip *chip, uint8_t *array, uint8_t event);

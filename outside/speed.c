@@ -1,11 +1,14 @@
 /*
- * Measures the library against plain C in one run, best of many passes. Only the ratios mean anything.
+ * Measures the library against plain C in one run, its calls with a map against those without, and first free against a
+ * full reading by crep_record_read, best of many passes. Only the ratios mean anything.
  *
  *     crep_run      the library, a trace a call            crep_event    the library, an event a call
  *     model_event   the model with all refusals, an event a call
  *     model_step    the model with no refusal looked for, an event a call: plain C as one writes it
  *     model_run     the model, a trace a call
  *     tuned_run     a C loop tuned by hand, a trace a call
+ *     crep_map_run  the library, a trace a call, with a map that it keeps
+ *     crep_map_event   the library, an event a call, with the map
  *
  *     speed [PASSES]       default 40
  *     speed ENGINE WORK    one pass of one engine on one workload (numbers from 0), for a counter such as callgrind
@@ -25,7 +28,7 @@
 #define ROOM 1000000
 
 static struct crep_chip chip;
-static uint8_t array[CREP_ARRAY], answers[ROOM];
+static uint8_t array[CREP_ARRAY], map[CREP_MAP], answers[ROOM];
 
 /* ---- Workloads ---- */
 
@@ -112,6 +115,17 @@ static uint8_t step_plainly(struct crep_chip *c, uint8_t *a, size_t array_len, u
     return 0;
 }
 
+static uint8_t run_mapped(struct crep_chip *c, uint8_t *a, size_t array_len, const uint8_t *trace, size_t trace_len,
+                          uint8_t *taken, size_t taken_len)
+{
+    return crep_map_run(c, a, array_len, map, sizeof map, trace, trace_len, taken, taken_len);
+}
+
+static uint8_t step_mapped(struct crep_chip *c, uint8_t *a, size_t array_len, uint8_t event, uint8_t *answer)
+{
+    return crep_map_event(c, a, array_len, map, sizeof map, event, answer);
+}
+
 static const struct engine engines[] = {
     { "crep_run", crep_run, NULL },
     { "crep_event", NULL, crep_event },
@@ -119,9 +133,11 @@ static const struct engine engines[] = {
     { "model_step", NULL, step_plainly },
     { "model_run", model_run, NULL },
     { "tuned_run", tuned_run, NULL },
+    { "crep_map_run", run_mapped, NULL },
+    { "crep_map_event", NULL, step_mapped },
 };
 
-enum { RUN, EVENT, MODEL_EVENT, MODEL_STEP, MODEL_RUN, TUNED, ENGINES };
+enum { RUN, EVENT, MODEL_EVENT, MODEL_STEP, MODEL_RUN, TUNED, MAP_RUN, MAP_EVENT, ENGINES };
 
 /* All events of a workload, in traces as long as one call takes. */
 static int pass(const struct engine *engine, const struct work *work)
@@ -149,7 +165,7 @@ static double now(void)
     return (double)t.tv_sec * 1e9 + (double)t.tv_nsec;
 }
 
-/* Nanoseconds an event, from a new chip on an array of random bytes. */
+/* Nanoseconds an event, from a new chip on an array of random bytes with its map. */
 static double time_pass(const struct engine *engine, const struct work *work)
 {
     struct chance chance = { 7 };
@@ -157,6 +173,7 @@ static double time_pass(const struct engine *engine, const struct work *work)
 
     model_new(&chip, 0, 0);
     chance_fill(&chance, array, CREP_ARRAY);
+    model_map_build(array, sizeof array, map, sizeof map);
     begun = now();
     if (passing(engine, work) != 0) {
         printf("%s refuses %s\n", engine->name, work->name);
@@ -197,13 +214,105 @@ static void measure(int passes)
             }
 }
 
+/* ---- Where a gate can be added ---- */
+
+static const unsigned places[] = { 0, 255, 511, CREP_NO_SECTOR };
+
+enum { PLACES = sizeof places / sizeof places[0], TIMES = 200 };
+
+enum { READING, FIRST, BUILD, SEARCHES };
+
+static const char *const searches[] = { "reading", "crep_map_first", "crep_map_build" };
+static double quickest[SEARCHES][PLACES];
+static volatile unsigned found;         /* so that no search is left out */
+
+/* As a panel does it without a map: one record after the other until one is free. */
+static unsigned read_all(void)
+{
+    int32_t closed, opened, travel;
+    uint8_t length, empty = 0;
+    unsigned k;
+
+    for (k = 0; k < CREP_SECTORS; k++)
+        if (crep_record_read(array + CREP_RECORD * k, CREP_RECORD, &closed, &opened, &travel, &length, &empty) == 0
+            && empty)
+            return k;
+    return CREP_NO_SECTOR;
+}
+
+static unsigned search(int kind)
+{
+    uint16_t sector = 0;
+
+    if (kind == READING)
+        return read_all();
+    if (kind == BUILD ? crep_map_build(array, sizeof array, map, sizeof map) : crep_map_first(map, sizeof map, &sector))
+        exit(1);
+    return sector;
+}
+
+/* Good records in all sectors but this one. */
+static void fill_gates(unsigned place)
+{
+    unsigned k;
+
+    for (k = 0; k < CREP_SECTORS; k++)
+        model_record_write(array + CREP_RECORD * k, CREP_RECORD, -1, (int32_t)k, (const uint8_t *)"NORTH YARD", 10);
+    if (place < CREP_SECTORS)
+        memset(array + CREP_RECORD * place, 0xff, CREP_RECORD);
+    model_map_build(array, sizeof array, map, sizeof map);
+}
+
+static void measure_searches(int passes)
+{
+    int p, at, kind, i;
+
+    for (p = 0; p < passes; p++)
+        for (at = 0; at < PLACES; at++) {
+            fill_gates(places[at]);
+            for (kind = 0; kind < SEARCHES; kind++) {
+                double ns = now();
+
+                for (i = 0; i < TIMES; i++)
+                    found = search(kind);
+                ns = (now() - ns) / TIMES;
+                if (kind != BUILD && found != places[at])
+                    printf("%s finds %u, not %u\n", searches[kind], found, places[at]);
+                if (p == 0 || ns < quickest[kind][at])
+                    quickest[kind][at] = ns;
+            }
+        }
+}
+
+static void print_searches(void)
+{
+    char text[64];
+    int kind, at;
+
+    printf("%-29s %11s %11s %11s %11s\n", "ns per search, first free", "0", "255", "511", "none");
+    for (kind = 0; kind < SEARCHES; kind++) {
+        printf("  %-27s", searches[kind]);
+        for (at = 0; at < PLACES; at++)
+            printf(" %11.1f", quickest[kind][at]);
+        printf("\n");
+    }
+    printf("ratio, below 1 is faster\n");
+    for (kind = FIRST; kind < SEARCHES; kind++) {
+        snprintf(text, sizeof text, "%s / %s", searches[kind], searches[READING]);
+        printf("  %-27s", text);
+        for (at = 0; at < PLACES; at++)
+            printf(" %11.4f", quickest[kind][at] / quickest[READING][at]);
+        printf("\n");
+    }
+}
+
 /* ---- The table ---- */
 
 static void print_heading(const char *text)
 {
     int w;
 
-    printf("%-28s", text);
+    printf("%-29s", text);
     for (w = 0; w < WORKS; w++)
         printf(" %11s", works[w].name);
     printf("\n");
@@ -215,7 +324,7 @@ static void print_ratio(int a, int b)
     int w;
 
     snprintf(text, sizeof text, "%s / %s", engines[a].name, engines[b].name);
-    printf("  %-26s", text);
+    printf("  %-27s", text);
     for (w = 0; w < WORKS; w++)
         printf(" %11.2f", best[a][w] / best[b][w]);
     printf("\n");
@@ -228,7 +337,7 @@ static void print_table(int passes)
     printf("speed: best of %d passes\n", passes);
     print_heading("ns per event");
     for (e = 0; e < ENGINES; e++) {
-        printf("  %-26s", engines[e].name);
+        printf("  %-27s", engines[e].name);
         for (w = 0; w < WORKS; w++)
             printf(" %11.2f", best[e][w]);
         printf("\n");
@@ -240,6 +349,8 @@ static void print_table(int passes)
     print_ratio(RUN, TUNED);
     print_ratio(EVENT, MODEL_EVENT);
     print_ratio(EVENT, MODEL_STEP);
+    print_ratio(MAP_RUN, RUN);
+    print_ratio(MAP_EVENT, EVENT);
 }
 
 int main(int argc, char **argv)
@@ -255,7 +366,10 @@ int main(int argc, char **argv)
         printf("%s, %s: %zu events\n", engines[e].name, works[w].name, works[w].len);
         return time_pass(&engines[e], &works[w]) < 0;
     }
-    measure(passes > 0 ? passes : 1);
+    passes = passes > 0 ? passes : 1;
+    measure(passes);
+    measure_searches(passes);
     print_table(passes);
+    print_searches();
     return 0;
 }

@@ -50,6 +50,9 @@ static void stir_load(struct chance *chance, struct crep_chip *chip)
         chip->places[i] = all ? 1 : flag(chance);
         chip->load[i] = chance_byte(chance);
     }
+    /* what frees a sector is bytes FFh */
+    if (chance_once_in(chance, 4))
+        memset(chip->load, 0xff, sizeof chip->load);
     if (chip->mark)
         chip->load[0] = (uint8_t)ONE_OF(chance, commands);
     if (chip->count == 0 && flag(chance)) {
@@ -169,6 +172,8 @@ static void a_write(struct chance *chance, struct wire *wire, int select)
     uint8_t bytes[65];
 
     chance_fill(chance, bytes, sizeof bytes);
+    if (chance_once_in(chance, 4))
+        memset(bytes, 0xff, sizeof bytes);
     if (flag(chance))
         wire_register(wire, select, 0x02);
     wire_write(wire, select, stir_address(chance), bytes, ONE_OF(chance, sizes));
@@ -278,6 +283,37 @@ void stir_trace(struct chance *chance, struct wire *wire, int select)
     }
 }
 
+/* One write of a few bytes or of 32, FFh every second time, to one of a few sectors. */
+static void a_cycle(struct chance *chance, struct wire *wire, int select)
+{
+    static const uint32_t sectors[] = { 0, 1, 7, 8, 255, 256, 383, 384, 510, 511 };
+    static const uint32_t sizes[] = { 1, 1, 1, 1, 1, 2, 3, 32 };
+    uint8_t bytes[32];
+    uint32_t n = ONE_OF(chance, sizes), address = 32 * ONE_OF(chance, sectors);
+
+    memset(bytes, flag(chance) ? 0xff : chance_byte(chance), sizeof bytes);
+    if (chance_once_in(chance, 3))
+        address += chance_below(chance, 32);
+    wire_write(wire, select, address, bytes, n);
+}
+
+void stir_cycles(struct chance *chance, struct wire *wire, int select)
+{
+    wire_register(wire, select, 0x02);
+    while (wire->len < wire->room) {
+        if (chance_once_in(chance, 12))
+            a_locking(chance, wire, select);
+        else
+            a_cycle(chance, wire, select);
+        if (!chance_once_in(chance, 10))
+            wire_event(wire, 8);
+        if (chance_once_in(chance, 5)) {
+            wire_event(wire, 9);
+            wire_register(wire, select, 0x02);
+        }
+    }
+}
+
 /* ---- Records ---- */
 
 int32_t stir_limit(struct chance *chance)
@@ -361,6 +397,34 @@ void stir_record(struct chance *chance, uint8_t *record)
         memset(record, 0xff, 32);
     if (kind == 9 && flag(chance))
         record[chance_below(chance, 32)] = chance_byte(chance);
+}
+
+static void stir_gate(struct chance *chance, uint8_t *record)
+{
+    uint32_t kind = chance_below(chance, 4);
+
+    stir_record(chance, record);
+    if (kind < 2)
+        memset(record, kind == 0 ? 0xff : chance_byte(chance), 32);
+    if (kind == 0)
+        record[chance_below(chance, 32)] ^= (uint8_t)(1u << chance_below(chance, 8));
+}
+
+/* A few records, each in many sectors: 512 of their own would take longer than what is compared on them. */
+void stir_gates(struct chance *chance, uint8_t *array)
+{
+    uint32_t share = chance_below(chance, 5), i;
+    uint8_t records[8][32];
+
+    for (i = 0; i < 8; i++)
+        stir_gate(chance, records[i]);
+    memset(array, 0xff, CREP_ARRAY);
+    for (i = 0; i < CREP_SECTORS; i++) {
+        uint64_t word = chance_word(chance);
+
+        if (word % 4 < share)
+            memcpy(array + 32 * i, records[word >> 32 & 7], 32);
+    }
 }
 
 size_t stir_length(struct chance *chance, size_t usual, size_t most)

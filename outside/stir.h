@@ -15,8 +15,15 @@ void stir_out_of_range(struct chance *chance, struct crep_chip *chip);
 /* An array of FFh, of one byte or of random bytes. */
 void stir_array(struct chance *chance, uint8_t *array);
 
+/* The same array in gates: each sector free, a record of any kind, or free but for one byte; all are free, or none,
+ * or any share of them. */
+void stir_gates(struct chance *chance, uint8_t *array);
+
 /* Messages for a chip with this select, good and bad, mixed with noise, until `room` events are spelt. */
 void stir_trace(struct chance *chance, struct wire *wire, int select);
+
+/* The same with cycle after cycle in a few sectors: stores, spoils and register bytes, most of them ended. */
+void stir_cycles(struct chance *chance, struct wire *wire, int select);
 
 /* An event byte 0-9; the samples of a clock often, program-done and power-up seldom. */
 uint8_t stir_event(struct chance *chance);

@@ -6,13 +6,15 @@
 
 struct tally {
     uint64_t seed, round;       /* `compare -s SEED -r ROUND` comes back to this round */
-    uint64_t events, traced, recoveries, records, names, sends;
+    uint64_t events, traced, recoveries, records, names, sends, maps, mapped;
     uint64_t notes[8];
-    uint64_t refusals[18];
+    uint64_t refusals[19];
     uint64_t phases[12];
     uint64_t pulses[11];
     uint64_t locked[2];         /* records sent to a chip for which they are: its sector not locked, locked */
     uint64_t short_loads[3];    /* on an X24F128: spoilt with FFh, spoilt with another byte, stopped by a lock */
+    uint64_t bits[4];           /* a cycle's bit: 0 and 0 after it, 0 and 1, 1 and 0, 1 and 1 */
+    uint64_t first[2];          /* first free in a map: a sector, none */
 };
 
 extern struct tally tally;
@@ -20,8 +22,8 @@ extern struct tally tally;
 /* Prints where the comparison stands, as the head of a report of a difference. */
 void tally_difference(const char *call);
 
-/* Prints the counts. Returns how many notes, refusals, phases, pulse numbers, kinds of sector and ends of a short load
- * were never reached. */
+/* Prints the counts. Returns how many notes, refusals, phases, pulse numbers, kinds of sector, ends of a short load,
+ * changes of a map's bit and kinds of first free were never reached. */
 int tally_print(void);
 
 #endif

@@ -15,12 +15,12 @@
 #define BEFORE 0xee             /* what stands in a buffer before a call writes it */
 
 static struct crep_chip chip;
-static uint8_t array[CREP_ARRAY + 1], tape[CREP_TRACE + 1], answers[CREP_TRACE + 4];
+static uint8_t array[CREP_ARRAY + 1], map[CREP_MAP + 1], tape[CREP_TRACE + 1], answers[CREP_TRACE + 4];
 static uint8_t spelt[64];
 static struct wire wire = { spelt, sizeof spelt, 0, 0 };
 static unsigned long value;     /* the number that is being read */
-static int number, minus, comment, text, recording, line = 1;
-static size_t length, room = CREP_ARRAY, space_lent = CREP_TRACE;
+static int number, minus, comment, text, recording, mapping, line = 1;
+static size_t length, room = CREP_ARRAY, map_lent = CREP_MAP, space_lent = CREP_TRACE;
 static size_t live;             /* events of a live order, which stand past the tape's end */
 static int32_t closed, opened;
 
@@ -36,12 +36,25 @@ static void noted(unsigned n)
         printf("'%x", n);
 }
 
+/* What is lent of the array, and of the map where one goes along, is no longer than what there is. */
+static int lendable(int with_map)
+{
+    return room <= sizeof array && (!with_map || map_lent <= sizeof map);
+}
+
 /* ---- Words on the wires ---- */
 
 static void record_byte(unsigned byte)
 {
     if (length < sizeof tape)
         tape[length++] = (uint8_t)byte;
+}
+
+static uint8_t run_event(uint8_t byte, uint8_t *answer)
+{
+    if (mapping)
+        return model_map_event(&chip, array, room, map, map_lent, byte, answer);
+    return model_event(&chip, array, room, byte, answer);
 }
 
 /* A live order's events stand past the tape's end while it runs, and what has no room there is not run. */
@@ -53,10 +66,10 @@ static void event(unsigned byte)
         record_byte(byte);
         return;
     }
-    if (length + live >= sizeof tape || room > sizeof array)
+    if (length + live >= sizeof tape || !lendable(mapping))
         return;
     tape[length + live++] = (uint8_t)byte;
-    refused(model_event(&chip, array, room, (uint8_t)byte, &answer));
+    refused(run_event((uint8_t)byte, &answer));
     noted(CREP_NOTE(answer));
     line = CREP_LINE(answer);
 }
@@ -120,15 +133,22 @@ static void burst(unsigned long n)
 
 /* ---- Whole traces and recovery ---- */
 
+static uint8_t run_trace(void)
+{
+    if (mapping)
+        return model_map_run(&chip, array, room, map, map_lent, tape, length, answers, space_lent);
+    return model_run(&chip, array, room, tape, length, answers, space_lent);
+}
+
 static void run_tape(void)
 {
     unsigned long kept = 0, low = 0, sum = 0;
     size_t i;
 
     memset(answers, BEFORE, sizeof answers);
-    if (room > sizeof array || length > sizeof tape || space_lent > sizeof answers)
+    if (!lendable(mapping) || length > sizeof tape || space_lent > sizeof answers)
         return;
-    refused(model_run(&chip, array, room, tape, length, answers, space_lent));
+    refused(run_trace());
     for (i = 0; i < sizeof answers; i++) {
         if (answers[i] == BEFORE) {
             kept++;
@@ -217,6 +237,39 @@ static void send_record(void)
         length = events;
 }
 
+/* ---- The map: all of its bytes are counted, the one beside those that are lent too ---- */
+
+static void build_map(void)
+{
+    unsigned bits = 0, sum = 0, k;
+    size_t i;
+
+    if (!lendable(1))
+        return;
+    refused(model_map_build(array, room, map, map_lent));
+    for (i = 0; i < sizeof map; i++) {
+        sum += map[i];
+        for (k = 0; k < 8; k++)
+            bits += map[i] >> k & 1;
+    }
+    printf("=%04x,%04x", bits, sum);
+}
+
+static void first_free(void)
+{
+    uint16_t found = BEFORE;
+    uint8_t refusal;
+
+    if (map_lent > sizeof map)
+        return;
+    refusal = model_map_first(map, map_lent, &found);
+    refused(refusal);
+    if (refusal == 0 && found == CREP_NO_SECTOR)
+        printf("=n");
+    else if (refusal == 0)
+        printf("=%04x", found);
+}
+
 /* ---- Looking and setting ---- */
 
 static void show(void)
@@ -303,6 +356,13 @@ static void order(int c)
     case 'm': putchar('='); if (value < sizeof array) printf("%02x", array[value]); break;
     case 'o': sector(value); break;
     case 'w': if (value / 256 < sizeof array) array[value / 256] = n; break;
+    case 'M': build_map(); break;
+    case 'G': first_free(); break;
+    case 'K': if (value / 256 < sizeof map) map[value / 256] = n; break;
+    case 'I': if (value < sizeof map) printf("=%02x", map[value]); break;
+    case 'X': map_lent = value; break;
+    case '{': mapping = 1; break;
+    case '}': mapping = 0; break;
     case 'f': if (length <= sizeof tape) memset(tape + length, n, sizeof tape - length); break;
     case 'q': if (length > 0 && length - 1 < sizeof tape) tape[length - 1] = n; break;
     case '^': wire.pin = 1; break;

@@ -17,11 +17,11 @@ use Rattle.parts.proofs.RegisterLaws.{Noted, written-noted}
 use Rattle.chip.specs.Event.{next, nextArray}
 use Rattle.chip.specs.Part.{partial}
 use Rattle.chip.specs.Stop.{effectMoved}
-use Rattle.chip.specs.View.{pinHigh, stops, mute, Untouched, Changed, Cycled, Told, Did, DidBy}
+use Rattle.chip.specs.View.{isSample, pinHigh, stops, mute, Untouched, Changed, Cycled, Told, Did, DidBy}
 use Rattle.chip.specs.View.Did.{nothing, finish, clear, change, store, spoil}
 use Rattle.chip.specs.declared.chip.Chip.{Chip}
 use Rattle.chip.specs.declared.wire.Event.{Event}
-use Rattle.chip.specs.declared.wire.Event.the-variants.{Sample, ProgramDone, PowerUp}
+use Rattle.chip.specs.declared.wire.Event.the-variants.{Sample}
 use Rattle.chip.specs.declared.wire.Sample.{Sample as Levels}
 use Rattle.chip.proofs.StepLaws.{next-by}
 
@@ -61,12 +61,6 @@ noted-most {w = w} noted = go (ℕ-discrete (w .note) 2) (ℕ-discrete (w .note)
     go (yes e) three = omega arith
     go (no e) (yes f) = omega arith
     go (no e) (no f) = omega (arith, noted .only e f)
-
--- a sample is neither of the other events
-isSample : Event → Bool
-isSample (Sample s) = true
-isSample ProgramDone = false
-isSample PowerUp = false
 
 module _ {e : Event} {c : Chip} {xs : List ℕ} {after : Register} {busy : Bool} {note : ℕ} {ys : List ℕ} where
   -- what the view says of the array's length

@@ -2,9 +2,12 @@
 --
 -- | Name | Meaning |
 -- |---|---|
+-- | `isSample`, `samples` | a sample of the wires; each of a row is one |
 -- | `pinHigh`, `pinsHigh` | the protect pin high in an event, and in each of a row |
 -- | `isStop`, `stops e c` | the edge is a STOP; the chip sees one in this event |
 -- | `mute` | a note that says nothing of a write: 0, 4, 7 |
+-- | `writes` | a note that says that a cycle of the array has begun: 1, 5 |
+-- | `sectorIn` | the number of the counter's sector, the one that such a cycle writes |
 -- | `Stopped` | an idle chip that sees a rightly placed STOP with a load |
 -- | `Writable` | the sector of the counter is the array's and not locked |
 -- | `Cycled` | a cycle that begins with a load for this sector |
@@ -17,7 +20,7 @@
 -- | `Touched` | what an event that changed a byte says of it |
 -- | `SeesStart` | a chip that has just seen a START |
 -- | `Shows` | a chip whose pull is on its line |
-use Prim.Native.Nat.{ℕ, _%_, _≤_}
+use Prim.Native.Nat.{ℕ, _/_, _%_, _≤_}
 use mathlib.Core.Bool.{Bool, true, false, _||_}
 use mathlib.Core.Path.{_≡_}
 use mathlib.Core.List.{List}
@@ -41,6 +44,16 @@ use Rattle.chip.specs.declared.wire.Edge.{Edge}
 use Rattle.chip.specs.declared.wire.Edge.the-variants.{Quiet, Start, Stop, Rise, Fall}
 use Rattle.chip.specs.declared.wire.Event.{Event}
 use Rattle.chip.specs.declared.wire.Event.the-variants.{Sample, ProgramDone, PowerUp}
+
+-- neither of the other events
+unfoldable pub isSample : Event → Bool
+isSample (Sample s) = true
+isSample ProgramDone = false
+isSample PowerUp = false
+
+-- as a row is between two program-dones or power-ups
+abbrev pub samples : List Event → Bool
+samples es = every isSample es
 
 -- the protect pin in a sample; where there is no sample nothing asks it, and it counts as high
 unfoldable pub pinHigh : Event → Bool
@@ -69,6 +82,14 @@ stops PowerUp c = false
 -- 6 belongs to a register byte; 1, 2, 3 and 5 say that something was written
 unfoldable pub mute : ℕ → Bool
 mute note = eqb note 0 || eqb note 4 || eqb note 7
+
+-- N1, N5: a store, or a spoil
+unfoldable pub writes : ℕ → Bool
+writes note = eqb note 1 || eqb note 5
+
+-- C11: the address divided by 32
+abbrev pub sectorIn : Chip → ℕ
+sectorIn c = c .counter / 32
 
 -- where alone something can be written
 pub record Stopped (e : Event) (c : Chip) : Type 0 where

@@ -2,6 +2,7 @@
 // that it can be lent. include/crepulanter.h is the other side of this interface.
 mod at;
 mod chips;
+mod maps;
 mod packing;
 mod records;
 mod sending;
@@ -11,6 +12,10 @@ pub use chips::crep_event;
 pub use chips::crep_new;
 pub use chips::crep_recover;
 pub use chips::crep_run;
+pub use maps::crep_map_build;
+pub use maps::crep_map_event;
+pub use maps::crep_map_first;
+pub use maps::crep_map_run;
 pub use records::crep_name;
 pub use records::crep_record_limits;
 pub use records::crep_record_read;

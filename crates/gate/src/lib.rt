@@ -13,5 +13,6 @@ mod writing;
 pub use limiting::set_limits;
 pub use naming::shown_name;
 pub use naming::shown_span;
+pub use reading::is_free;
 pub use reading::read;
 pub use writing::write;

@@ -3,7 +3,7 @@ ghost use mathlib.Core.Path.{_≡_};
 ghost use lib.Dec.{eqb};
 ghost use lib.ListN.{length, take};
 ghost use Rattle.gate.specs.Bytes.{total};
-ghost use Rattle.gate.specs.Reading.{sumAt, labelFits, contentOf, readOf};
+ghost use Rattle.gate.specs.Reading.{isFree, sumAt, labelFits, contentOf, readOf};
 use crate::answer::Read;
 use crate::bytes::all_are;
 use crate::bytes::pair_at;
@@ -59,6 +59,13 @@ fn content(bytes: &[u8]) -> Read
     }
 }
 
+// Whether all bytes are FFh: 32 of them are a free record.
+pub fn is_free(bytes: &[u8]) -> bool
+    ensures { λ r. ⌜ r ≡ isFree (now (bytes .entry)) ⌝ }
+{
+    all_are(bytes, 0xff)
+}
+
 // What 32 bytes hold as a record; any other number of bytes is refused.
 pub fn read(bytes: &[u8]) -> Read
     ensures { λ r. ⌜ r ≡ readOf (now (bytes .entry)) ⌝ }
@@ -66,7 +73,7 @@ pub fn read(bytes: &[u8]) -> Read
     if bytes.len() != RECORD_BYTES {
         return Read::Refused { number: 7 };
     }
-    if all_are(bytes, 0xff) {
+    if is_free(bytes) {
         return Read::Free;
     }
     if bytes[4] != 0xa5 {

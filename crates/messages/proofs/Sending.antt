@@ -1,9 +1,8 @@
 -- A byte that the master sends, clock by clock: the chip takes its eight bits and acknowledges it. Assumes nothing.
-use Prim.Native.Nat.{ℕ, zero, suc, _+_, _*_, _/_, _%_, _≤_, _<_}
-use mathlib.Core.Bool.{Bool, true, false, cond, not, _&&_}
+use Prim.Native.Nat.{ℕ, _+_, _*_, _/_, _%_, _≤_, _<_}
+use mathlib.Core.Bool.{Bool, true, false, cond, not}
 use mathlib.Core.List.{List, [], _∷_, _++_}
 use mathlib.Core.Path.{_≡_, refl, sym, subst}
-use native.Mathlib.Decide.{ℕ-discrete}
 use native.Mathlib.Omega.{arith}
 use borrow.Author.Tests.{eq-eqb, ne-eqb, eqb-true}
 use lib.Dec.{eqb}
@@ -13,7 +12,7 @@ use Rattle.parts.specs.Sector.{nextPlace}
 use Rattle.parts.specs.declared.load.Load.{Load}
 use Rattle.parts.specs.declared.phase.Phase.{Phase}
 use Rattle.parts.specs.declared.phase.Phase.the-variants.{Standby, Slave, First, Second, Data, AckWrite, AckRead, AckFirst, AckByte}
-use Rattle.parts.proofs.CondLaws.{and-left, and-right}
+use Rattle.parts.proofs.RowLaws.{below, each}
 use Rattle.parts.specs.Rows.{stepped}
 use Rattle.chip.specs.Chip.{pulls, withTransfer}
 use Rattle.chip.specs.Event.{next, nextArray, sampled, judged, judgedArray, reacted, reactedArray}
@@ -37,21 +36,6 @@ twice (b ∷ rest) = b ∷ b ∷ twice rest
 -- what is heard of a byte that is sent and acknowledged
 unfoldable pub heardSent : ℕ → List Bool
 heardSent byte = twice (bitsOf byte) ++ false ∷ false ∷ []
-
--- a test that passes below n, number by number
-below : ℕ → (ℕ → Bool) → Bool
-below zero test = true
-below (suc n) test = test n && below n test
-
--- then it passes for each
-each : (n : ℕ) (test : ℕ → Bool) → below n test ≡ true → (k : ℕ) → k < n → test k ≡ true
-unfolding below
-each zero test t k h = absurd (omega arith)
-each (suc n) test t k h = go (each n test (and-right (test n) (below n test) t)) (ℕ-discrete k n)
-  where
-    go : ((k : ℕ) → k < n → test k ≡ true) → Dec (k ≡ n) → test k ≡ true
-    go rest (yes e) = rw e (and-left (test n) (below n test) t)
-    go rest (no e) = rest k (omega arith)
 
 -- the bits of a byte make the byte: computed for all 256
 pub byte-again : (byte : ℕ) → byte < 256 → byteOf 0 (bitsOf byte) ≡ byte

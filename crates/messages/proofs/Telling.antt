@@ -6,16 +6,11 @@ use mathlib.Core.List.{List, [], _∷_, _++_}
 use mathlib.Core.Path.{_≡_, refl, ap, _∙_}
 use lib.ListN.{length, replicate}
 use Rattle.parts.specs.Rows.{stepped}
+use Rattle.parts.proofs.RowLaws.{stepped-on}
 use Rattle.chip.specs.Run.{World, step, noteOf, ran, lines, notes}
 use Rattle.chip.specs.Wire.{sample}
 use Rattle.chip.specs.declared.wire.Event.{Event}
 use Rattle.messages.specs.Wires.{Wires}
-
--- where two rows of events lead
-ran-on : (first second : List Event) (w : World) → ran (first ++ second) w ≡ ran second (ran first w)
-unfolding stepped
-ran-on [] second w = refl
-ran-on (e ∷ first) second w = ran-on first second (step e w)
 
 -- what is heard of them
 lines-on : (first second : List Event) (w : World) → lines (first ++ second) w ≡ lines first w ++ lines second (ran first w)
@@ -40,7 +35,7 @@ pub plays-then : {u v w : World} {first second : List Event} {heard heard′ : L
     → Plays u first heard told v → Plays v second heard′ told′ w → Plays u (first ++ second) (heard ++ heard′) (told ++ told′) w
 plays-then {u} {v} {w} {first} {second} s t =
     record {
-      ends = ran-on first second u ∙ (rw (s .ends) (t .ends));
+      ends = stepped-on step first second u ∙ (rw (s .ends) (t .ends));
       hears = lines-on first second u ∙ (rw (s .hears, s .ends, t .hears) refl);
       tells = notes-on first second u ∙ (rw (s .tells, s .ends, t .tells) refl);
     }

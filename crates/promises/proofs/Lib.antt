@@ -1,6 +1,7 @@
 pub mod Bench
 pub mod Cases
 pub mod Demand3
+pub mod Map
 pub mod OneAnswer
 pub mod Sender
 pub mod SenderRuns

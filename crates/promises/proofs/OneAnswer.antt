@@ -22,13 +22,17 @@ use Rattle.chip.specs.Chip.{withSpoil, standardChip, made}
 use Rattle.chip.specs.Event.{next, nextArray, refusal, eventAnswer, eventArray}
 use Rattle.chip.proofs.chip.Chip
 use Rattle.trace.specs.Bytes.{eventOf, sampleByte, answerByte}
-use Rattle.trace.specs.Trace.{ranOf, runArray, runAnswers}
+use Rattle.trace.specs.Trace.{runRefusal, ranOf, runArray, runAnswers}
 use Rattle.trace.proofs as trace
+use Rattle.map.specs.Finding.{firstFree}
+use Rattle.map.specs.Keeping.{answerOf, answerArray, answerMap, traceRan, traceArray, traceMap, traceAnswers}
+use Rattle.map.specs.Sectors.{buildRefusal, builtOf}
+use Rattle.map.proofs as map
 use Rattle.recovery.specs.Recovery.{recoveryAnswer, recoveryArray}
 use Rattle.recovery.proofs as recovery
 use Rattle.gate.specs.Limiting.{limitsOf, limitedOf}
 use Rattle.gate.specs.Naming.{spanOf, nameOf}
-use Rattle.gate.specs.Reading.{readOf}
+use Rattle.gate.specs.Reading.{isFree, readOf}
 use Rattle.gate.specs.Answer.{givenOf}
 use Rattle.gate.specs.Writing.{writeOf, writtenOf}
 use Rattle.gate.proofs as gate
@@ -187,6 +191,26 @@ operations =
     ∷ one (whole 3 trace.run.Kinds.ps trace.run.Kinds.r trace.run.Reads.Post)
     (λ κs (chip, (array, (bytes, (answers, end)))). (ranOf chip (now array) (now bytes) (now answers), (tt, (runArray chip (now array) (now bytes) (now answers), (tt, (runAnswers chip (now array) (now bytes) (now answers), tt))))))
     (λ κs input r left p i. (p .0 i, (tt, (p .1 .0 i, (tt, (p .1 .1 i, tt))))))
+    -- trace::run_refusal
+    ∷ one (whole 2 trace.run_refusal.Kinds.ps trace.run_refusal.Kinds.r trace.run_refusal.Reads.Post)
+    (λ κs (chip, (array, (bytes, (room, end)))). (runRefusal chip (now array) (now bytes) room, (tt, (tt, (tt, (tt, tt))))))
+    (λ κs input r left. alone)
+    -- map::build
+    ∷ one (whole 2 map.build.Kinds.ps map.build.Kinds.r map.build.Reads.Post)
+    (λ κs (array, (m, end)). (buildRefusal (now array) (now m), (tt, (builtOf (now array) (now m), tt))))
+    (λ κs input r left. with-array)
+    -- map::first_free
+    ∷ one (whole 1 map.first_free.Kinds.ps map.first_free.Kinds.r map.first_free.Reads.Post)
+    (λ κs (m, end). (firstFree (now m), (tt, tt)))
+    (λ κs input r left. alone)
+    -- map::event
+    ∷ one (whole 2 map.event.Kinds.ps map.event.Kinds.r map.event.Reads.Post)
+    (λ κs (chip, (array, (m, (event, end)))). (answerOf event chip (now array) (now m), (tt, (answerArray event chip (now array) (now m), (answerMap event chip (now array) (now m), (tt, tt))))))
+    (λ κs input r left p i. (p .0 i, (tt, (p .1 .0 i, (p .1 .1 i, (tt, tt))))))
+    -- map::run
+    ∷ one (whole 4 map.run.Kinds.ps map.run.Kinds.r map.run.Reads.Post)
+    (λ κs (chip, (array, (m, (bytes, (answers, end))))). (traceRan chip (now array) (now m) (now bytes) (now answers), (tt, (traceArray chip (now array) (now m) (now bytes) (now answers), (traceMap chip (now array) (now m) (now bytes) (now answers), (tt, (traceAnswers chip (now array) (now m) (now bytes) (now answers), tt)))))))
+    (λ κs input r left p i. (p .0 i, (tt, (p .1 .0 i, (p .1 .1 .0 i, (tt, (p .1 .1 .1 i, tt)))))))
     -- recovery::recover
     ∷ one (whole 1 recovery.recover.Kinds.ps recovery.recover.Kinds.r recovery.recover.Reads.Post)
     (λ κs (chip, (array, (pin, end))). (recoveryAnswer pin chip (now array), (tt, (recoveryArray pin chip (now array), (tt, tt)))))
@@ -199,6 +223,10 @@ operations =
     ∷ one (whole 1 gate.set_limits.Kinds.ps gate.set_limits.Kinds.r gate.set_limits.Reads.Post)
     (λ κs (bytes, (closed, (opened, end))). (limitsOf (now bytes) closed opened, (limitedOf (now bytes) closed opened, (tt, (tt, tt)))))
     (λ κs input r left p i. (p .0 i, (p .1 i, left .1)))
+    -- gate::is_free
+    ∷ one (whole 1 gate.is_free.Kinds.ps gate.is_free.Kinds.r gate.is_free.Reads.Post)
+    (λ κs (bytes, end). (isFree (now bytes), (tt, tt)))
+    (λ κs input r left. alone)
     -- gate::read
     ∷ one (whole 1 gate.read.Kinds.ps gate.read.Kinds.r gate.read.Reads.Post)
     (λ κs (bytes, end). (readOf (now bytes), (tt, tt)))
@@ -250,4 +278,16 @@ operations =
     -- crep_send
     ∷ by-parts (whole 3 crepulanter.crep_send.Kinds.ps crepulanter.crep_send.Kinds.r crepulanter.crep_send.Reads.Post)
     (λ κs input r r′ left left′ p q i. (both (p .returned) (q .returned) i, (tt, (tt, (tt, (both (p .trace) (q .trace) i, (both (p .counted) (q .counted) i, tt)))))))
+    -- crep_map_build
+    ∷ by-parts (whole 2 crepulanter.crep_map_build.Kinds.ps crepulanter.crep_map_build.Kinds.r crepulanter.crep_map_build.Reads.Post)
+    (λ κs input r r′ left left′ p q i. (both (p .0) (q .0) i, (tt, (both (p .1) (q .1) i, tt))))
+    -- crep_map_first
+    ∷ by-parts (whole 2 crepulanter.crep_map_first.Kinds.ps crepulanter.crep_map_first.Kinds.r crepulanter.crep_map_first.Reads.Post)
+    (λ κs input r r′ left left′ p q i. (both (p .returned) (q .returned) i, (tt, (both (p .found) (q .found) i, tt))))
+    -- crep_map_event
+    ∷ by-parts (whole 4 crepulanter.crep_map_event.Kinds.ps crepulanter.crep_map_event.Kinds.r crepulanter.crep_map_event.Reads.Post)
+    (λ κs input r r′ left left′ p q i. (both (p .returned) (q .returned) i, (both (p .state) (q .state) i, (both (p .array) (q .array) i, (both (p .map) (q .map) i, (tt, (both (p .answered) (q .answered) i, tt)))))))
+    -- crep_map_run
+    ∷ by-parts (whole 5 crepulanter.crep_map_run.Kinds.ps crepulanter.crep_map_run.Kinds.r crepulanter.crep_map_run.Reads.Post)
+    (λ κs input r r′ left left′ p q i. (both (p .returned) (q .returned) i, (both (p .state) (q .state) i, (both (p .array) (q .array) i, (both (p .map) (q .map) i, (tt, (both (p .answers) (q .answers) i, tt)))))))
     ∷ []

@@ -5,14 +5,15 @@ use mathlib.Core.Bool.{Bool, true, false, cond}
 use mathlib.Core.List.{List, [], _∷_, _++_, map, append-assoc, map-append}
 use mathlib.Core.Path.{_≡_, refl, ap, ap₂, sym, subst, subst₂, _∙_}
 use native.Mathlib.Omega.{arith}
-use lib.ListN.{length, drop, replicate, length-drop, getD-replicate}
-use lib.Seq.{length-take-le, getD-take, getD-drop, ext-getD}
+use lib.ListN.{length, drop, replicate, getD-replicate}
+use lib.Seq.{ext-getD}
 use Rattle.parts.specs.Load.{noLoad, whole, stored}
 use Rattle.parts.specs.Register.{withPel, withRpel}
-use Rattle.parts.specs.Sector.{sectorStart, Bytes}
+use Rattle.parts.specs.Sector.{sectorStart, sectorOf, Bytes}
 use Rattle.parts.specs.Rows.{stepped}
 use Rattle.parts.specs.declared.phase.Phase.the-variants.{Standby}
 use Rattle.parts.proofs.LoadLaws.{length-stored, stored-at, stored-outside}
+use Rattle.parts.proofs.SectorLaws.{sector-length, sector-byte}
 use Rattle.chip.specs.Chip.{withTransfer, withCycle, withLevels, chipFits}
 use Rattle.chip.specs.Event.{next, nextArray, programDone, refusal}
 use Rattle.chip.specs.Run.{World, world, step, noteOf, lines, notes}
@@ -37,7 +38,7 @@ use Rattle.messages.proofs.Telling.{pinned, silent, silent-all, steady-on, Play
 use Rattle.messages.proofs.Writing.{heardRow, heardMessage, toldMessage, chipThen, arrayThen, pel-message, sector-message, row-acked}
 use Rattle.sender.specs.Sending.{sentEvents, sendRefusal}
 use Rattle.sender.proofs.Sends.{Sendable, send-taken, sent-length, sent-events}
-use Rattle.promises.specs.Sender.{Ready, shutAt, ended, notesWith, Ends, sectorOf, Wrote, readBack}
+use Rattle.promises.specs.Sender.{Ready, shutAt, ended, notesWith, Ends, Wrote, readBack}
 
 -- the bytes of the two messages
 abbrev pelRow : ℕ → List ℕ
@@ -125,7 +126,7 @@ wrote gate bytes xs gate-in sized all =
       sector =
           ext-getD 0 (sectorOf gate ys) bytes (long ∙ sym sized)
           (λ k h. let inside : k < 32 = rw long at h in
-          getD-take 32 (drop (gate * 32) ys) k 0 inside ∙ getD-drop (gate * 32) ys k 0 ∙ stored-at xs (gate * 32) (whole bytes) k inside (omega arith) ∙ (rw (getD-replicate 32 k true false inside)));
+          sector-byte gate ys k inside ∙ stored-at xs (gate * 32) (whole bytes) k inside (omega arith) ∙ (rw (getD-replicate 32 k true false inside)));
       others = λ a apart. rw start at (stored-outside xs (gate * 32) (whole bytes) a (rw start apart));
     }
   where
@@ -136,7 +137,7 @@ wrote gate bytes xs gate-in sized all =
     start = omega arith
 
     long : length (sectorOf gate ys) ≡ 32
-    long = length-take-le 32 (drop (gate * 32) ys) (simp length-drop (omega (arith, length-stored xs (gate * 32) (whole bytes))))
+    long = sector-length gate ys (omega (arith, length-stored xs (gate * 32) (whole bytes)))
 
 -- For every record that is not refused, and every chip that the events are for
 module _ (gate : ℕ) (bytes : List ℕ) (select room : ℕ) (taken : sendRefusal gate bytes select room ≡ 0) (byte-wide : Bytes bytes) (w : World) (ready : Ready select w) where

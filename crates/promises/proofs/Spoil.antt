@@ -8,8 +8,10 @@ use native.Mathlib.Omega.{arith}
 use borrow.Author.Tests.{eqb-true}
 use lib.Dec.{eqb}
 use lib.ListN.{length-replicate, replicate}
+use Rattle.parts.specs.Sector.{sectorOf}
 use Rattle.parts.proofs.CondLaws.{cond-by}
 use Rattle.chip.specs.Event.{next, nextArray, refusal}
+use Rattle.chip.specs.View.{sectorIn}
 use Rattle.chip.specs.declared.chip.Chip.{Chip}
 use Rattle.chip.specs.declared.wire.Event.{Event}
 use Rattle.chip.proofs.EventLaws.{taken-of}
@@ -19,8 +21,8 @@ use Rattle.gate.specs.Answer.{isGood}
 use Rattle.gate.specs.Reading.{readOf, isFree}
 use Rattle.gate.specs.declared.answer.Read.{Read}
 use Rattle.gate.specs.declared.answer.Read.the-variants.{Free, Refused}
-use Rattle.promises.specs.Sender.{sectorOf, Wrote}
-use Rattle.promises.specs.Spoil.{sectorIn, spoiltAs}
+use Rattle.promises.specs.Sender.{Wrote}
+use Rattle.promises.specs.Spoil.{spoiltAs}
 use Rattle.promises.proofs.Sender.{wrote}
 
 -- For every chip and array that are not refused: an event with note 5 leaves the spoil byte in all 32 places of the sector, and no other byte is touched

@@ -8,18 +8,17 @@
 -- | `ended gate c` | the chip afterwards |
 -- | `notesWith note` | the notes of the 713 events, this one at the last STOP |
 -- | `Ends note` | how the events end: the chip, and the notes and acknowledges in their answers |
--- | `sectorOf gate xs` | the 32 bytes of the gate's sector |
 -- | `Wrote` | the sector holds the record, and every other byte is kept |
 -- | `readBack pins select gate w` | the 32 bytes that a random read of the sector gives |
 use Prim.Native.Nat.{ℕ, _+_, _*_, _<_}
 use mathlib.Core.Bool.{Bool, true, false}
 use mathlib.Core.List.{List, [], _∷_, _++_, map}
 use mathlib.Core.Path.{_≡_}
-use lib.ListN.{length, getD, take, drop, replicate}
+use lib.ListN.{length, getD, drop, replicate}
 use Rattle.parts.specs.Load.{noLoad}
 use Rattle.parts.specs.Locks.{locked}
 use Rattle.parts.specs.Register.{withPel}
-use Rattle.parts.specs.Sector.{sectorStart}
+use Rattle.parts.specs.Sector.{sectorStart, sectorOf}
 use Rattle.parts.specs.declared.phase.Phase.the-variants.{Standby}
 use Rattle.chip.specs.Chip.{withTransfer, withCycle, withLevels}
 use Rattle.chip.specs.Run.{World}
@@ -58,11 +57,7 @@ pub record Ends (note gate : ℕ) (w w′ : World) (answers : List ℕ) : Type 0
   pub setting : (k : ℕ) → k < 4 → AckAt (2 + 18 * k) (map answerLine answers)
   pub writing : (k : ℕ) → k < 35 → AckAt (79 + 18 * k) (map answerLine answers)
 
--- G1: the record of gate k lies in sector k
-abbrev pub sectorOf : ℕ → List ℕ → List ℕ
-sectorOf gate xs = take 32 (drop (gate * 32) xs)
-
--- A7: that sector then holds the record and every other byte is kept
+-- A7, G1: the record of gate k lies in sector k; that sector then holds the record and every other byte is kept
 pub record Wrote (gate : ℕ) (bytes xs ys : List ℕ) : Type 0 where
   pub sized : length ys ≡ length xs
   pub sector : sectorOf gate ys ≡ bytes

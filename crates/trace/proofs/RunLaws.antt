@@ -1,36 +1,22 @@
--- The turns of the two loops over a trace, as laws of what is left of it. Assumes nothing.
-use Prim.Native.Nat.{ℕ, suc, _+_, _≤_, _<_}
-use mathlib.Core.Bool.{Bool, true, false, cond, _&&_}
+-- The turns of the loop over a trace, as laws of what is left of it, and a trace in parts. Assumes nothing.
+use Prim.Native.Nat.{ℕ, suc, _+_, _-_, _≤_, _<_}
+use mathlib.Core.Bool.{Bool, true, false, cond}
 use mathlib.Core.Path.{_≡_, refl, sym, ap, ap₂, _∙_}
-use mathlib.Core.List.{List, [], _∷_, _++_, append-nil, append-assoc}
+use mathlib.Core.List.{List, [], _∷_, _++_, map, map-append, append-nil, append-assoc}
 use native.Mathlib.Numerals.{add-one}
 use native.Mathlib.Omega.{arith}
-use borrow.Author.Tests.{le-leb, lt-leb, leb-true, eqb-false}
+use borrow.Author.Tests.{eq-eqb, ne-eqb, le-leb, leb-true, eqb-false}
 use lib.Dec.{leb, eqb}
-use lib.ListN.{length, getD, set, take, drop, length-set, drop-of-length-le, take-append-drop}
-use lib.Seq.{drop-cons, drop-drop, drop-set-lt, take-suc-set}
-use Rattle.parts.specs.Rows.{every, stepped}
+use lib.ListN.{length, getD, set, take, drop, length-set, length-append, length-drop, drop-of-length-le, take-append-drop}
+use lib.Seq.{drop-cons, drop-drop, drop-set-lt, drop-at, length-take-le, take-at, take-suc-set}
+use Rattle.parts.specs.Rows.{stepped}
+use Rattle.parts.proofs.RowLaws.{stepped-on}
 use Rattle.chip.specs.Event.{next, nextArray, refusal}
-use Rattle.chip.specs.Run.{World, world, step, noteOf}
+use Rattle.chip.specs.Run.{World, world, step, noteOf, ran}
 use Rattle.chip.specs.declared.chip.Chip.{Chip}
+use Rattle.chip.specs.declared.wire.Event.{Event}
 use Rattle.trace.specs.Bytes.{eventOf, allEvents, answerByte}
 use Rattle.trace.specs.Trace.{after, answersOf, runRefusal, unless, ranOf, runArray, runAnswers}
-
--- what is left of the test of a row, at the byte that comes
-module _ (bytes : List ℕ) (i : ℕ) (h : i < length bytes) where
-  all-here : allEvents (drop i bytes) ≡ (leb (getD bytes i 0) 9 && allEvents (drop (suc i) bytes))
-  unfolding every
-  all-here = ap allEvents (drop-cons bytes i 0 h)
-
-  pub all-again : getD bytes i 0 ≤ 9 → allEvents (drop i bytes) ≡ allEvents bytes → allEvents (drop (i + 1) bytes) ≡ allEvents bytes
-  all-again good before = rw (add-one, ← before, all-here, le-leb _ _ good)
-
-  pub all-not : 9 < getD bytes i 0 → allEvents (drop i bytes) ≡ allEvents bytes → allEvents bytes ≡ false
-  all-not bad before = rw (← before, all-here, lt-leb _ _ bad)
-
-pub all-end : (bytes : List ℕ) (i : ℕ) → length bytes ≤ i → allEvents (drop i bytes) ≡ allEvents bytes → allEvents bytes ≡ true
-unfolding every
-all-end bytes i h before = sym before ∙ ap allEvents (drop-of-length-le bytes h)
 
 -- after i events: the rest of the trace leads where the whole leads, the answers so far and those to come are the whole's,
 -- and the answer bytes past them are as they were
@@ -79,6 +65,76 @@ module _ (bytes old : List ℕ) (w : World) (i : ℕ) (c : Chip) (xs told : List
         ap (λ (l : List ℕ). after l (world c xs)) nothing ∙ g .here,
         sym (take-append-drop i told) ∙ ap₂ (λ (a b : List ℕ). a ++ b) all (g .rest ∙ ap (λ (n : ℕ). drop n old) whole),
       )
+
+-- a trace in two parts leads where the second leads from the first's end
+pub after-on : (first second : List ℕ) (w : World) → after (first ++ second) w ≡ after second (after first w)
+unfolding after
+after-on first second w = ap (λ (es : List Event). ran es w) (map-append eventOf first second) ∙ stepped-on step (map eventOf first) (map eventOf second) w
+
+-- and answers what both do
+pub answers-on : (first second : List ℕ) (w : World) → answersOf (first ++ second) w ≡ answersOf first w ++ answersOf second (after first w)
+unfolding answersOf after stepped
+answers-on [] second w = refl
+answers-on (byte ∷ first) second w = ap (λ (rest : List ℕ). answerByte (step (eventOf byte) w .chip .line) (noteOf (eventOf byte) w) ∷ rest) (answers-on first second (step (eventOf byte) w))
+
+-- with an answer byte for each event
+pub length-answers : (bytes : List ℕ) (w : World) → length (answersOf bytes w) ≡ length bytes
+unfolding answersOf
+length-answers [] w = refl
+length-answers (byte ∷ bytes) w = ap suc (length-answers bytes (step (eventOf byte) w))
+
+-- the next n events of the trace, run as a whole, with their answers in the place of as many bytes
+module _ (bytes old : List ℕ) (w : World) (i n : ℕ) (c : Chip) (xs told : List ℕ) (g : Going bytes old w i c xs told) (last : i + n ≤ length bytes) (room : i + n ≤ length told) where
+  abbrev part : List ℕ
+  part = take n (drop i bytes)
+
+  abbrev said-so : List ℕ
+  said-so = take i told ++ answersOf part (world c xs)
+
+  -- what is left is the part and what comes behind it
+  pub part-and-rest : part ++ drop (i + n) bytes ≡ drop i bytes
+  part-and-rest = ap (λ (l : List ℕ). part ++ l) (sym (drop-drop n i bytes)) ∙ take-append-drop n (drop i bytes)
+
+  -- the answers so far reach its end
+  said-length : length said-so ≡ i + n
+  said-length =
+      let left : length (drop i bytes) ≡ length bytes - i = length-drop i bytes in
+      let so-far : length (take i told) ≡ i = length-take-le i told (omega arith) in
+      let more : length (answersOf part (world c xs)) ≡ n = length-answers part (world c xs) ∙ length-take-le n (drop i bytes) (omega arith) in
+      length-append (take i told) (answersOf part (world c xs)) ∙ omega arith
+
+  -- behind them nothing is written
+  pub told-rest : take i told ++ (answersOf part (world c xs) ++ drop n (drop i told)) ≡ said-so ++ drop (i + n) told
+  told-rest = ap (λ (l : List ℕ). take i told ++ (answersOf part (world c xs) ++ l)) (drop-drop n i told) ∙ sym (append-assoc (take i told) (answersOf part (world c xs)) (drop (i + n) told))
+
+  pub going-on : Going bytes old w (i + n) (after part (world c xs) .chip) (after part (world c xs) .array) (take i told ++ (answersOf part (world c xs) ++ drop n (drop i told)))
+  going-on =
+      rw told-rest
+      (record {
+        within = last;
+        room = length-append said-so (drop (i + n) told) ∙ (rw (said-length, length-drop (i + n) told) (omega (arith, g .room)));
+        here = sym (after-on part (drop (i + n) bytes) (world c xs)) ∙ ap (λ (l : List ℕ). after l (world c xs)) part-and-rest ∙ g .here;
+        said =
+            ap (λ (l : List ℕ). l ++ answersOf (drop (i + n) bytes) (after part (world c xs))) (take-at said-so (drop (i + n) told) (i + n) said-length)
+            ∙ append-assoc (take i told) (answersOf part (world c xs)) (answersOf (drop (i + n) bytes) (after part (world c xs)))
+            ∙ ap (λ (l : List ℕ). take i told ++ l) (sym (answers-on part (drop (i + n) bytes) (world c xs)) ∙ ap (λ (l : List ℕ). answersOf l (world c xs)) part-and-rest)
+            ∙ g .said;
+        rest =
+            drop-at said-so (drop (i + n) told) (i + n) said-length
+            ∙ sym (drop-drop n i told)
+            ∙ ap (λ (l : List ℕ). drop n l) (g .rest)
+            ∙ drop-drop n i old;
+      })
+
+-- not refused, it is what the run leaves
+pub unless-zero {ℓ} : {A : Type ℓ} (number : ℕ) (kept run : A) → number ≡ 0 → unless number kept run ≡ run
+unfolding unless
+unless-zero number kept run z = rw (eq-eqb number 0 z)
+
+-- refused, it is kept
+pub unless-not {ℓ} : {A : Type ℓ} (number : ℕ) (kept run : A) → (number ≡ 0 → ⊥) → unless number kept run ≡ kept
+unfolding unless
+unless-not number kept run n = rw (ne-eqb number 0 n)
 
 -- a trace that is not refused has room for its answers
 room-of : (n : ℕ) (a b c d : Bool) → eqb n 0 ≡ a → cond a (cond b (cond c (cond d 0 6) 5) 4) n ≡ 0 → c ≡ true

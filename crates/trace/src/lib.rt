@@ -67,7 +67,7 @@ fn all_events(trace: &[u8]) -> bool
 }
 
 // The refusal of a trace: 1, 2, 4, 5, 6 in this order, else 0.
-fn run_refusal(chip: Chip, array: &[u8], trace: &[u8], room: usize) -> u8
+pub fn run_refusal(chip: Chip, array: &[u8], trace: &[u8], room: usize) -> u8
     ensures { λ r. ⌜ r ≡ runRefusal chip (now (array .entry)) (now (trace .entry)) room ⌝ }
 {
     let number = chip.refusal(array);

@@ -4,9 +4,13 @@ use crate::say;
 use crate::wires;
 use crate::wires::Tape;
 use chip::chip::Chip;
+use chip::event::Answer;
 
 // A chip's array, and one byte beside it.
 pub(crate) type Array = [u8; 16385];
+
+// A map of free sectors, and one byte beside it.
+pub(crate) type Map = [u8; 65];
 
 pub(crate) struct Desk {
     pub chip: Chip,
@@ -26,6 +30,9 @@ pub(crate) struct Desk {
     // how much of the array and of the answer buffer is lent
     pub room: usize,
     pub space: usize,
+    // how much of the map is lent, and whether events go with it
+    pub span: usize,
+    pub keeping: bool,
     // the limits of the next record
     pub closed: i32,
     pub opened: i32,
@@ -47,76 +54,96 @@ pub(crate) fn fresh() -> Desk {
         length: 0,
         room: Chip::BYTES,
         space: 65536,
+        span: 64,
+        keeping: false,
         closed: 0,
         opened: 0,
     }
 }
 
-// What was heard, with the line after one event more: samples with the clock high count.
-fn hear(heard: u16, event: u8, line: bool) -> u16 {
-    if event % 2 == 0 {
-        return heard;
-    }
-    if line {
-        return heard % 32768 * 2 + 1;
-    }
-    heard % 32768 * 2
-}
-
-// One event on the chip: its refusal and its note are written where there is one.
-fn ran(desk: Desk, array: &mut [u8], event: u8) -> Desk {
+// The line after one event more, heard: samples with the clock high count.
+fn hear(desk: Desk, event: u8) -> Desk {
     let mut d = desk;
-    let room = d.room;
-    if room <= array.len() {
-        let answer = d.chip.event(&mut array[..room], trace::event_of(event));
-        say::unless_none(b'!', answer.refusal);
-        say::unless_none(b'\'', answer.note);
-        let chip = answer.chip;
-        d.chip = chip;
-        d.line = answer.line;
-        d.heard = hear(d.heard, event, answer.line);
+    if event % 2 == 0 {
         return d;
     }
+    if d.line {
+        d.heard = d.heard % 32768 * 2 + 1;
+        return d;
+    }
+    d.heard = d.heard % 32768 * 2;
     d
 }
 
+// How much of the map goes with an event: nothing without it.
+pub(crate) fn along(d: Desk) -> usize {
+    if d.keeping { d.span } else { 0 }
+}
+
+// One event on the chip, with the map or without.
+fn answer(d: Desk, array: &mut [u8], map: &mut [u8], event: u8) -> Answer {
+    if d.keeping {
+        return map::event(d.chip, array, map, trace::event_of(event));
+    }
+    d.chip.event(array, trace::event_of(event))
+}
+
+// One event on what is lent: its refusal and its note are written where there is one.
+fn ran(desk: Desk, array: &mut [u8], map: &mut [u8], event: u8) -> Desk {
+    let mut d = desk;
+    let room = d.room;
+    let span = along(d);
+    if room <= array.len() {
+        if span <= map.len() {
+            let answer = answer(d, &mut array[..room], &mut map[..span], event);
+            say::unless_none(b'!', answer.refusal);
+            say::unless_none(b'\'', answer.note);
+            let chip = answer.chip;
+            d.chip = chip;
+            d.line = answer.line;
+            return hear(d, event);
+        }
+    }
+    hear(d, event)
+}
+
 // The events of a tape from a position on.
-fn played(desk: Desk, array: &mut Array, tape: &[u8], from: usize) -> Desk {
+fn played(desk: Desk, array: &mut Array, map: &mut Map, tape: &[u8], from: usize) -> Desk {
     let mut d = desk;
     let mut i = from;
     while i < tape.len() {
-        d = ran(d, array, tape[i]);
+        d = ran(d, array, map, tape[i]);
         i = i + 1;
     }
     d
 }
 
 // An order's events, put on the tape up to a new end: they stay there, or the chip has them and the tape is as long as it was.
-pub(crate) fn moved(desk: Desk, array: &mut Array, tape: &[u8], end: usize) -> Desk {
+pub(crate) fn moved(desk: Desk, array: &mut Array, map: &mut Map, tape: &[u8], end: usize) -> Desk {
     let mut d = desk;
     if d.recording {
         d.length = end;
         return d;
     }
     if end <= tape.len() {
-        return played(d, array, &tape[..end], d.length);
+        return played(d, array, map, &tape[..end], d.length);
     }
     d
 }
 
 // Sends a byte in nine clocks, let go in the ninth.
-pub(crate) fn sent(d: Desk, array: &mut Array, tape: &mut Tape, byte: u8) -> Desk {
+pub(crate) fn sent(d: Desk, array: &mut Array, map: &mut Map, tape: &mut Tape, byte: u8) -> Desk {
     let end = wires::nine(tape, d.length, d.pin, byte, true);
-    moved(d, array, tape, end)
+    moved(d, array, map, tape, end)
 }
 
 // Sends n bytes 01h, 02h, .. and writes how many of them were acknowledged.
-pub(crate) fn burst(desk: Desk, array: &mut Array, tape: &mut Tape, n: u32) -> Desk {
+pub(crate) fn burst(desk: Desk, array: &mut Array, map: &mut Map, tape: &mut Tape, n: u32) -> Desk {
     let mut d = desk;
     let mut taken: u64 = 0;
     let mut i: u32 = 0;
     while i < n {
-        d = sent(d, array, tape, (i % 255 + 1) as u8);
+        d = sent(d, array, map, tape, (i % 255 + 1) as u8);
         taken = count::one_more(taken, !d.line);
         i = i + 1;
     }

@@ -1,8 +1,9 @@
-// The vectors: a script on standard input drives chips, traces, recovery, records and the sender, and each order is written again
-// with what came of it.
+// The vectors: a script on standard input drives chips, traces, recovery, records, the map and the sender, and each order is written
+// again with what came of it.
 mod alter;
 mod count;
 mod desk;
+mod maps;
 mod orders;
 mod records;
 mod say;
@@ -12,14 +13,15 @@ mod wires;
 
 use libc::STDIN_FILENO;
 
-// Every byte of a script, with an array of FFh and a tape of samples with both wires high.
+// Every byte of a script, with an array of FFh, a map of 00h and a tape of samples with both wires high.
 fn play(script: &[u8]) {
     let mut array = [0xffu8; 16385];
+    let mut map = [0u8; 65];
     let mut tape = [3u8; 65537];
     let mut d = desk::fresh();
     let mut i: usize = 0;
     while i < script.len() {
-        d = orders::took(d, &mut array, &mut tape, script[i]);
+        d = orders::took(d, &mut array, &mut map, &mut tape, script[i]);
         i = i + 1;
     }
 }

@@ -4,6 +4,8 @@ use crate::count;
 use crate::desk;
 use crate::desk::Array;
 use crate::desk::Desk;
+use crate::desk::Map;
+use crate::maps;
 use crate::records;
 use crate::say;
 use crate::sending;
@@ -64,12 +66,12 @@ fn tell(d: Desk, order: u8) {
 }
 
 // Orders that run many events or begin anew.
-fn run(d: Desk, array: &mut Array, tape: &mut Tape, order: u8) -> Desk {
+fn run(d: Desk, array: &mut Array, map: &mut Map, tape: &mut Tape, order: u8) -> Desk {
     let value = d.value;
     match order {
-        b'k' => desk::burst(d, array, tape, value),
+        b'k' => desk::burst(d, array, map, tape, value),
         b'v' => tape::recover(d, array),
-        b't' => tape::run_tape(d, array, tape),
+        b't' => tape::run_tape(d, array, map, tape),
         b'S' => sending::send_record(d, array, tape),
         b'n' => new_chip(d, array, (value % 256) as u8),
         _ => d,
@@ -128,7 +130,7 @@ fn set(desk: Desk, order: u8) -> Desk {
             d.chip = chip;
             d
         }
-        _ => d,
+        _ => maps::set(d, order),
     }
 }
 
@@ -158,13 +160,14 @@ fn switch(desk: Desk, order: u8) -> Desk {
 }
 
 // One order: what it puts on the wires, what it runs, what it shows, what it sets.
-fn acted(d: Desk, array: &mut Array, tape: &mut Tape, order: u8) -> Desk {
+fn acted(d: Desk, array: &mut Array, map: &mut Map, tape: &mut Tape, order: u8) -> Desk {
     let n = (d.value % 256) as u8;
     let end = wires::of_order(tape, d.length, d.pin, order, n);
-    let wired = desk::moved(d, array, tape, end);
+    let wired = desk::moved(d, array, map, tape, end);
     tell(wired, order);
-    let done = run(wired, array, tape, order);
+    let done = run(wired, array, map, tape, order);
     look(done, array, tape, order);
+    maps::of_order(done, array, map, order);
     switch(done, order)
 }
 
@@ -186,9 +189,9 @@ fn cleared(desk: Desk) -> Desk {
 }
 
 // A number that stands by itself is a byte to send; `+` says that it was acknowledged.
-fn space(d: Desk, array: &mut Array, tape: &mut Tape) -> Desk {
+fn space(d: Desk, array: &mut Array, map: &mut Map, tape: &mut Tape) -> Desk {
     if d.number {
-        let sent = desk::sent(d, array, tape, (d.value % 256) as u8);
+        let sent = desk::sent(d, array, map, tape, (d.value % 256) as u8);
         say::flag(!sent.recording & sent.line, b'-');
         say::flag(!sent.recording & !sent.line, b'+');
         return cleared(sent);
@@ -208,7 +211,7 @@ fn letter(desk: Desk, tape: &mut Tape, byte: u8) -> Desk {
 }
 
 // One byte of an order: a digit, a sign, what begins a comment or a text, or the letter itself.
-fn order(desk: Desk, array: &mut Array, tape: &mut Tape, byte: u8) -> Desk {
+fn order(desk: Desk, array: &mut Array, map: &mut Map, tape: &mut Tape, byte: u8) -> Desk {
     let mut d = desk;
     match byte {
         b'#' => {
@@ -226,13 +229,19 @@ fn order(desk: Desk, array: &mut Array, tape: &mut Tape, byte: u8) -> Desk {
         }
         48..=57 => digit(d, byte - 48),
         65..=70 => digit(d, byte - 55),
-        _ => cleared(acted(d, array, tape, byte)),
+        _ => cleared(acted(d, array, map, tape, byte)),
     }
 }
 
 // One byte of the script, written again; a byte that a space ends is sent before the space is written. A comment runs to the end
 // of its line.
-pub(crate) fn took(desk: Desk, array: &mut Array, tape: &mut Tape, byte: u8) -> Desk {
+pub(crate) fn took(
+    desk: Desk,
+    array: &mut Array,
+    map: &mut Map,
+    tape: &mut Tape,
+    byte: u8,
+) -> Desk {
     let mut d = desk;
     if d.comment {
         say::letter(byte);
@@ -244,10 +253,10 @@ pub(crate) fn took(desk: Desk, array: &mut Array, tape: &mut Tape, byte: u8) -> 
         return letter(d, tape, byte);
     }
     if (byte == b' ') | (byte == b'\n') {
-        let sent = space(d, array, tape);
+        let sent = space(d, array, map, tape);
         say::letter(byte);
         return sent;
     }
     say::letter(byte);
-    order(d, array, tape, byte)
+    order(d, array, map, tape, byte)
 }

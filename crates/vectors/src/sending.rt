@@ -3,17 +3,6 @@ use crate::count;
 use crate::desk::Desk;
 use crate::say;
 
-// The sum of all bytes modulo 65,536.
-fn sum(bytes: &[u8]) -> u64 {
-    let mut all: u64 = 0;
-    let mut i: usize = 0;
-    while i < bytes.len() {
-        all = count::added(all, bytes[i]);
-        i = i + 1;
-    }
-    all
-}
-
 // Sends the record with select and gate number from the number read. The refusal, the count of events and the sum of the whole tape
 // are written; what was sent is then on the tape.
 pub(crate) fn send_record(desk: Desk, array: &[u8], tape: &mut [u8]) -> Desk {
@@ -27,7 +16,7 @@ pub(crate) fn send_record(desk: Desk, array: &[u8], tape: &mut [u8]) -> Desk {
             let sent = sender::send(number, &array[..room], select, &mut tape[..space]);
             say::unless_none(b'!', sent.refusal);
             say::number(b'=', sent.count as u64, 4);
-            say::number(b',', sum(tape), 5);
+            say::number(b',', count::sum(tape), 5);
             if sent.refusal != 0 {
                 return d;
             }

@@ -1,10 +1,13 @@
 // Whole traces, recovery and buffers: a tape is run with the lengths that the script sets, and what came back is written.
 use crate::count;
+use crate::desk;
 use crate::desk::Array;
 use crate::desk::Desk;
+use crate::desk::Map;
 use crate::say;
 use crate::wires::Tape;
 use chip::chip::Chip;
+use trace::Ran;
 
 // What stands in the answer buffer before a run.
 const BEFORE: u8 = 0xee;
@@ -57,26 +60,38 @@ fn told(answers: &[u8]) {
     total(t);
 }
 
-// A trace on what is lent of array, tape and answers.
-fn run_with(desk: Desk, array: &mut [u8], tape: &[u8], answers: &mut [u8]) -> Desk {
+// A trace, with the map or without.
+fn ran(d: Desk, array: &mut [u8], map: &mut [u8], tape: &[u8], answers: &mut [u8]) -> Ran {
+    if d.keeping {
+        return map::run(d.chip, array, map, tape, answers);
+    }
+    trace::run(d.chip, array, tape, answers)
+}
+
+// A trace on what is lent of array, map, tape and answers.
+fn run_with(desk: Desk, array: &mut [u8], map: &mut [u8], tape: &[u8], answers: &mut [u8]) -> Desk {
     let mut d = desk;
     let room = d.room;
+    let span = desk::along(d);
     let length = d.length;
     let space = d.space;
     if room <= array.len() {
-        if length <= tape.len() {
-            if space <= answers.len() {
-                let ran = trace::run(
-                    d.chip,
-                    &mut array[..room],
-                    &tape[..length],
-                    &mut answers[..space],
-                );
-                say::unless_none(b'!', ran.refusal);
-                told(answers);
-                let chip = ran.chip;
-                d.chip = chip;
-                return d;
+        if span <= map.len() {
+            if length <= tape.len() {
+                if space <= answers.len() {
+                    let ran = ran(
+                        d,
+                        &mut array[..room],
+                        &mut map[..span],
+                        &tape[..length],
+                        &mut answers[..space],
+                    );
+                    say::unless_none(b'!', ran.refusal);
+                    told(answers);
+                    let chip = ran.chip;
+                    d.chip = chip;
+                    return d;
+                }
             }
         }
     }
@@ -84,9 +99,9 @@ fn run_with(desk: Desk, array: &mut [u8], tape: &[u8], answers: &mut [u8]) -> De
 }
 
 // Runs what is on the tape.
-pub(crate) fn run_tape(d: Desk, array: &mut Array, tape: &Tape) -> Desk {
+pub(crate) fn run_tape(d: Desk, array: &mut Array, map: &mut Map, tape: &Tape) -> Desk {
     let mut answers = [BEFORE; 65540];
-    run_with(d, array, tape, &mut answers)
+    run_with(d, array, map, tape, &mut answers)
 }
 
 // Recovery, with the pin as it stands.

@@ -6,10 +6,10 @@ use Rattle.vectors.proofs.play.Statement.{statement}
 use Rattle.vectors.proofs.play.Tie as tie
 
 abbrev Inv-loop : tie.InvT-loop
-Inv-loop script array₀ film₀ d₀ i₀ array film d i = i ≤ length script
+Inv-loop script array₀ map₀ film₀ d₀ i₀ array map film d i = i ≤ length script
 
 abbrev μ-loop : tie.MeasureT-loop
-μ-loop script array₀ film₀ d₀ i₀ array film d i = length script - i
+μ-loop script array₀ map₀ film₀ d₀ i₀ array map film d i = length script - i
 
 pub play-spec : {M : Type 1} → statement M
 play-spec =

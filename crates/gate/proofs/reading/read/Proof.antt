@@ -9,7 +9,7 @@ use borrow.Author.Tests.{eq-eqb, ne-eqb, not-true, not-false}
 use lib.Dec.{eqb}
 use lib.ListN.{take}
 use Rattle.gate.specs.Bytes.{total}
-use Rattle.gate.specs.Reading.{sumAt, isFree, labelFits, contentOf, readOf}
+use Rattle.gate.specs.Reading.{sumAt, labelFits, contentOf, readOf}
 use Rattle.gate.specs.declared.answer.Read.the-variants.{Refused}
 use Rattle.gate.proofs.reading.read.Statement.{statement}
 use Rattle.gate.proofs.reading.read.Tie as tie
@@ -20,12 +20,12 @@ lent c = c .before .before .before .before .before .before .args .bytes .now
 
 -- past the state byte what is left to ask is the sum, the label and the limits
 past-state : (c : tie.Else3) → readOf (lent c) ≡ cond (not (eqb (sumAt (lent c)) (total (take 30 (lent c))))) (Refused 13) (cond (not (labelFits (lent c))) (Refused 14) (contentOf (lent c)))
-unfolding readOf isFree
+unfolding readOf
 past-state c =
     let two = c .before .before in
     rw (
       eq-eqb _ _ (two .before .before .if1 .left),
-      sym (two .before .all-are .ensures) ∙ two .if2 .left,
+      sym (two .before .is-free .ensures) ∙ two .if2 .left,
       eq-eqb _ _ (c .if3 .left),
     )
 
@@ -38,16 +38,16 @@ unfolding readOf
 returns c = rw (ne-eqb _ _ (c .if1 .taken))
 
 returns-2 : tie.Need-returns-2
-unfolding readOf isFree
-returns-2 c = rw (eq-eqb _ _ (c .before .before .if1 .left), sym (c .before .all-are .ensures) ∙ c .if2 .taken)
+unfolding readOf
+returns-2 c = rw (eq-eqb _ _ (c .before .before .if1 .left), sym (c .before .is-free .ensures) ∙ c .if2 .taken)
 
 returns-3 : tie.Need-returns-3
-unfolding readOf isFree
+unfolding readOf
 returns-3 c =
     let two = c .before .before in
     rw (
       eq-eqb _ _ (two .before .before .if1 .left),
-      sym (two .before .all-are .ensures) ∙ two .if2 .left,
+      sym (two .before .is-free .ensures) ∙ two .if2 .left,
       ne-eqb _ _ (c .if3 .taken),
     )
 

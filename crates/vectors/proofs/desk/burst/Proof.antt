@@ -5,10 +5,10 @@ use Rattle.vectors.proofs.desk.burst.Statement.{statement}
 use Rattle.vectors.proofs.desk.burst.Tie as tie
 
 abbrev Inv-loop : tie.InvT-loop
-Inv-loop array₀ tape₀ n d₀ taken₀ i₀ array tape d taken i = i ≤ n
+Inv-loop array₀ map₀ tape₀ n d₀ taken₀ i₀ array map tape d taken i = i ≤ n
 
 abbrev μ-loop : tie.MeasureT-loop
-μ-loop array₀ tape₀ n d₀ taken₀ i₀ array tape d taken i = n - i
+μ-loop array₀ map₀ tape₀ n d₀ taken₀ i₀ array map tape d taken i = n - i
 
 pub burst-spec : {M : Type 1} → statement M
 burst-spec =

@@ -10,7 +10,7 @@ moved-spec =
     tie.close
     (tie.spec
     (λ c. search needs)
-    (λ c. sym (length-take-le _ _ (c .before .before .if2 .taken)))
+    (λ c. sym (length-take-le _ _ (c .before .before .before .if2 .taken)))
     (λ c κs. search needs)
     (λ c. search needs)
     (λ c. search needs))

@@ -6,10 +6,10 @@ use Rattle.vectors.proofs.desk.played.Statement.{statement}
 use Rattle.vectors.proofs.desk.played.Tie as tie
 
 abbrev Inv-loop : tie.InvT-loop
-Inv-loop array₀ tape from d₀ i₀ array d i = i₀ ≤ i
+Inv-loop array₀ map₀ tape from d₀ i₀ array map d i = i₀ ≤ i
 
 abbrev μ-loop : tie.MeasureT-loop
-μ-loop array₀ tape from d₀ i₀ array d i = length tape - i
+μ-loop array₀ map₀ tape from d₀ i₀ array map d i = length tape - i
 
 pub played-spec : {M : Type 1} → statement M
 played-spec =

@@ -9,14 +9,19 @@ pub run-with-spec : {M : Type 1} → statement M
 run-with-spec =
     tie.close
     (tie.spec
+    (λ c κs. search needs)
     (λ c. search needs)
-    (λ c. sym (length-take-le _ _ (c .before .before .before .if1 .taken)))
-    (λ c. sym (length-take-le _ _ (c .before .before .before .if2 .taken)))
+    (λ c. sym (length-take-le _ _ (c .before .before .before .before .if1 .taken)))
     (λ c. search needs)
-    (λ c. sym (length-take-le _ _ (c .before .before .before .if3 .taken)))
+    (λ c. sym (length-take-le _ _ (c .before .before .before .before .if2 .taken)))
+    (λ c. sym (length-take-le _ _ (c .before .before .before .before .if3 .taken)))
+    (λ c. search needs)
+    (λ c. sym (length-take-le _ _ (c .before .before .before .before .if4 .taken)))
     (λ c κs. search needs)
     (λ c κs. search needs)
     (λ c κs. search needs)
+    (λ c. search needs)
+    (λ c. search needs)
     (λ c. search needs)
     (λ c. search needs)
     (λ c. search needs)

@@ -2,8 +2,8 @@
 use borrow.Author.Needs.{needs}
 use Prim.Native.Nat.{_≤_, _-_}
 use lib.ListN.{length}
-use Rattle.vectors.proofs.sending.sum.Statement.{statement}
-use Rattle.vectors.proofs.sending.sum.Tie as tie
+use Rattle.vectors.proofs.count.sum.Statement.{statement}
+use Rattle.vectors.proofs.count.sum.Tie as tie
 
 abbrev Inv-loop : tie.InvT-loop
 Inv-loop bytes all₀ i₀ all i = i ≤ length bytes
