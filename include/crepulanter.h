@@ -25,9 +25,11 @@
  *          bit 0  SCL level                           bits 1-3  the note
  *          bit 1  master's SDA: 0 pulls, 1 lets go    bits 4-7  0
  *          bit 2  protect pin level
- *     8    program-done: the cycle has ended
- *     9    power-up
- *     10 and above are refused (6)
+ *     8    program-done: the cycle has ended, what waited is written
+ *     9    power-up: of a cycle that it cuts off, all is written
+ *     10   power-up: of a cycle that it cuts off, nothing is written
+ *     11   power-up: of a cycle that it cuts off, places 0 to 15 of the sector are written, or the register byte
+ *     12 and above are refused (6)
  *   A clock is two samples: SCL low, then SCL high, with the bit on SDA in both. A START is SDA falling and a
  *   STOP is SDA rising between two samples with SCL high. Where SCL changes, only the clock edge counts.
  *   Byte sequences, pin low: 3 1 start - 2 3 1 repeated start - 0 1 3 stop - 0 1 a bit 0 - 2 3 a bit 1.
@@ -36,11 +38,14 @@
  * FOR THE AUTHOR OF A DRIVER
  *   - After crep_new and after a power-up the chip's last SCL is low. A first sample with SCL high and SDA pulled is
  *     then a rising clock and no START: send one sample with both wires high before it.
- *   - Notes 1, 2 and 5 leave the chip busy, and it stays busy for ever, deaf to the wires, unless CREP_DONE (or a
- *     power-up) is sent.
+ *   - Notes 1, 2 and 5 begin a cycle and write nothing yet: what is to be written waits in the chip, and CREP_DONE
+ *     writes it. Look at the array, or at PPEN and BL, after that. Unless CREP_DONE (or a power-up) is sent, the chip
+ *     stays busy for ever, deaf to the wires.
+ *   - A power-up in a cycle is the supply lost in it: each byte of the waiting sector is then the old or the new one,
+ *     as the event byte or the choices of crep_power_up say, and every other byte of the array is kept.
  *   - An X24F128 takes whole sectors. A load of fewer or more than 32 bytes spoils its sector, unless that is locked:
- *     neither the load nor what stood there before is left, all 32 bytes are chip.spoil (note 5). To break a write off
- *     make a START and then a STOP: the START drops the load (note 7), a STOP alone commits it.
+ *     after the cycle (note 5) neither the load nor what stood there before is left, all 32 bytes are chip.spoil. To
+ *     break a write off make a START and then a STOP: the START drops the load (note 7), a STOP alone commits it.
  *   - A write that ends in note 0 was not taken: PEL is not set, or the slave byte names another select, or the chip is
  *     busy, or a call was refused and its result dropped. The missing acknowledge tells which byte it was.
  *   - Letting SDA go while SCL is high is a STOP, and a STOP can commit a load. Where a bus hangs, do not tidy the pins
@@ -63,8 +68,8 @@
 extern "C" {
 #endif
 
-#define CREP_VERSION "0.6.0"
-#define CREP_VERSION_NUMBER 600         /* the same for #if: 10000 * first + 100 * second + third */
+#define CREP_VERSION "0.7.0"
+#define CREP_VERSION_NUMBER 700         /* the same for #if: 10000 * first + 100 * second + third */
 
 /* Before a call whose result must not be dropped: the compiler warns where it is. */
 #if defined(__GNUC__)
@@ -85,7 +90,7 @@ extern "C" {
 #define CREP_TRACE 65536        /* the longest trace of one crep_run or crep_map_run */
 #define CREP_PULSES 10          /* the most pulses that crep_recover makes */
 #define CREP_SEND 713           /* events that crep_send writes */
-#define CREP_STATE 82           /* bytes of a struct crep_chip */
+#define CREP_STATE 151          /* bytes of a struct crep_chip */
 
 /* ---- Parts, events, answers ---- */
 
@@ -96,7 +101,9 @@ extern "C" {
 #define CREP_SDA 2              /* in a sample: the master lets the data wire go */
 #define CREP_PIN 4              /* in a sample: the protect pin is high */
 #define CREP_DONE 8             /* event: program-done */
-#define CREP_POWER_UP 9         /* event: power-up */
+#define CREP_POWER_UP 9         /* event: power-up with all choices, FFFFFFFFh: see crep_power_up */
+#define CREP_CUT_NONE 10        /* event: power-up with no choice, 00000000h */
+#define CREP_CUT_HALF 11        /* event: power-up with choices 0 to 15, 0000FFFFh */
 
 #define CREP_LINE(answer) ((answer) & 1)            /* level of the data wire, 0 or 1 */
 #define CREP_NOTE(answer) ((answer) >> 1 & 7)       /* the note, 0 to 7 */
@@ -104,11 +111,11 @@ extern "C" {
 /* ---- Notes: what an event did ---- */
 
 #define CREP_NOTE_NONE 0        /* nothing to say */
-#define CREP_NOTE_STORED 1      /* array cycle begun: the loaded bytes are in the array, the chip is busy */
-#define CREP_NOTE_REGISTER 2    /* register cycle begun: PPEN and BL are set, the chip is busy */
+#define CREP_NOTE_STORED 1      /* array cycle begun: the chip is busy, CREP_DONE stores the loaded bytes */
+#define CREP_NOTE_REGISTER 2    /* register cycle begun: the chip is busy, CREP_DONE sets PPEN and BL */
 #define CREP_NOTE_LATCH 3       /* PEL or RPEL set or cleared by a register byte */
 #define CREP_NOTE_LOCKED 4      /* the sector is locked: nothing written */
-#define CREP_NOTE_NOT_32 5      /* X24F128 and not exactly 32 bytes: the sector is all chip.spoil, the chip is busy */
+#define CREP_NOTE_NOT_32 5      /* X24F128, not 32 bytes: array cycle begun, busy, CREP_DONE spoils its sector */
 #define CREP_NOTE_NOT_TAKEN 6   /* register byte not taken: RPEL not set before, reserved bits, or PPEN with the pin */
 #define CREP_NOTE_DROPPED 7     /* loaded bytes dropped by a START, a misplaced STOP or a second register byte */
 
@@ -119,15 +126,16 @@ extern "C" {
  *     crep_new            3                      crep_record_write   7 8 9 10 11
  *     crep_event          1 2 6                  crep_record_limits  7 12 13 14 10 11
  *     crep_run            1 2 4 5 6              crep_record_read    7 12 13 14
- *     crep_recover        1 2                    crep_name           none
- *     crep_send           7 12 13 14 15 16 17    crep_map_build      1 18
- *     crep_map_event      1 18 2 6               crep_map_first      18
+ *     crep_power_up       1 2                    crep_name           none
+ *     crep_recover        1 2                    crep_map_build      1 18
+ *     crep_send           7 12 13 14 15 16 17    crep_map_first      18
+ *     crep_map_event      1 18 2 6               crep_map_power_up   1 18 2
  *     crep_map_run        1 18 2 4 5 6
  *
  * A refused call runs nothing and changes neither the chip, nor the array, nor any buffer, the map among them. What it
  * does write:
  *     crep_new          the standard chip (X24F128, select 0) into *chip
- *     crep_event        1 into *answer (line high, note 0); crep_map_event too
+ *     crep_event        1 into *answer (line high, note 0); crep_map_event and the two power-ups too
  *     crep_recover      0 into *pulses
  *     crep_record_read  0 into each of its five numbers
  *     crep_send         0 into *events
@@ -139,7 +147,7 @@ extern "C" {
 #define CREP_REFUSED_PART_OR_SELECT 3   /* part above 1 or select above 7 */
 #define CREP_REFUSED_TRACE_LENGTH 4     /* trace_len above 65536 */
 #define CREP_REFUSED_ANSWERS_LENGTH 5   /* answers_len below trace_len */
-#define CREP_REFUSED_EVENT 6            /* an event byte above 9 */
+#define CREP_REFUSED_EVENT 6            /* an event byte above 11 */
 #define CREP_REFUSED_RECORD_LENGTH 7    /* record_len is not 32 */
 #define CREP_REFUSED_LABEL_LENGTH 8     /* label_len above 24 */
 #define CREP_REFUSED_LABEL_BYTE 9       /* a label byte outside 20h-7Eh */
@@ -172,6 +180,15 @@ extern "C" {
 #define CREP_PHASE_WAITING 10       /* let go, master's bit to come         -              -          -              */
 #define CREP_PHASE_NEXT 11          /* master's bit was low, byte follows   -              -          -              */
 
+/* What waits for the end of a cycle, and what the chip then carries in the other wait_ fields ("-": not read, and 0
+ * after a call that was not refused). Until CREP_DONE locks, the protect pin's guard and a register read go by ppen and
+ * bl. A new cycle overwrites what waited; after CREP_DONE on a busy chip, and after a power-up, nothing waits. In an
+ * idle chip only a caller makes something wait: CREP_DONE leaves it, a power-up drops it unwritten. */
+                                    /*                    high, low         ppen, bl    places, bytes               */
+#define CREP_WAIT_NOTHING 0         /* nothing            -                 -           -                           */
+#define CREP_WAIT_SECTOR 1          /* an array cycle     sector's number   -           what it is to write         */
+#define CREP_WAIT_REGISTER 2        /* a register cycle   -                 new values  -                           */
+
 /*
  * A chip: single bytes with no padding. Every field may be looked at and set; a value out of its range makes the next
  * call refuse with 2. A flag is 0 or 1, anything else is out of range. Begin with crep_new and set fields then: later
@@ -186,7 +203,7 @@ extern "C" {
  *     counter_high  address counter / 256                                                        0-3Fh
  *     counter_low   address counter % 256                                                        any
  *     mark          address FFFFh was sent: the register is selected, not the array              flag
- *     busy          a cycle runs: wires are ignored until event 8 or 9                           flag
+ *     busy          a cycle runs: wires are ignored until event 8, 9, 10 or 11                   flag
  *     scl           SCL level of the last sample                                                 flag
  *     line          level of the data wire after the last event                                  flag
  *     phase         where a transfer stands, CREP_PHASE_..                                       0-11
@@ -195,17 +212,25 @@ extern "C" {
  *     places[i]     a byte is loaded for place i of the sector                                   flag
  *     load[i]       that byte; a register byte is load[0]                                        any
  *     spoil         the byte that a short load leaves in all 32 places; FFh in a new chip        any
+ *     wait          what waits for the end of a cycle, CREP_WAIT_.., above                       0-2
+ *     wait_high     number of the waiting sector / 256                                           0-1
+ *     wait_low      number of the waiting sector % 256                                           any
+ *     wait_ppen     waiting PPEN                                                                 flag
+ *     wait_bl       waiting BL                                                                   0-3
+ *     wait_places[i]     place i of the waiting sector takes a byte                              flag
+ *     wait_bytes[i]      that byte; 0 from a STOP where it takes none                            any
  *
- * No event and no power-up changes spoil. A sector spoilt with FFh reads as a free record; set chip.spoil after
- * crep_new to have it refused, with 13 for A5h and with 12 for any other byte.
+ * No event and no power-up changes spoil; a cycle takes it at its STOP. A sector spoilt with FFh reads as a free
+ * record; set chip.spoil after crep_new to have it refused, with 13 for A5h and with 12 for any other byte.
  */
 struct crep_chip {
     uint8_t part, select, ppen, bl, rpel, pel, counter_high, counter_low, mark, busy, scl, line;
     uint8_t phase, bits, byte, high, count, places[32], load[32], spoil;
+    uint8_t wait, wait_high, wait_low, wait_ppen, wait_bl, wait_places[32], wait_bytes[32];
 };
 
 /*
- * Makes a new chip: PPEN 0, BL 0, spoil FFh, just powered up (standby, last SCL low, last line high).
+ * Makes a new chip: PPEN 0, BL 0, spoil FFh, just powered up (standby, last SCL low, last line high, nothing waits).
  * Refuses with 3, and then makes the standard chip, an X24F128 with select 0 whatever was asked for.
  */
 CREP_CHECKED uint8_t crep_new(struct crep_chip *chip, uint8_t part, uint8_t select);
@@ -225,10 +250,21 @@ CREP_CHECKED uint8_t crep_run(struct crep_chip *chip, uint8_t *array, size_t arr
                               const uint8_t *trace, size_t trace_len, uint8_t *answers, size_t answers_len);
 
 /*
+ * A power-up with any 32 choices; events 9, 10 and 11 know three sets of them. Of a cycle that it cuts off, place k of
+ * the waiting sector takes the byte that waits for it where bit k of choices is set, and a waiting register byte is
+ * taken, PPEN and BL together, where bit 0 is. All else in the array stays. An idle chip does not look at choices.
+ * Then, as always at power-up, busy, PEL, RPEL, counter, mark, load and what waits are cleared, the chip is in standby,
+ * last SCL low, last line high; part, select, PPEN, BL and spoil stay. *answer is 1: line high, note 0.
+ * Refuses with 1, 2; *answer is then 1 too.
+ */
+CREP_CHECKED uint8_t crep_power_up(struct crep_chip *chip, uint8_t *array, size_t array_len,
+                                   uint32_t choices, uint8_t *answer);
+
+/*
  * Frees a bus that the chip holds: pulses the clock with the data wire let go until the line is high, then makes a
  * START. *pulses is the number of that pulse, 1 to 10. pin is the protect pin's level, 0 low, any other value high.
- * The array and PPEN, BL, RPEL, PEL, spoil stay; the counter, the mark, the load and the phase may not. SCL is high
- * and SDA pulled afterwards. A busy chip reports 1 and ignores the START.
+ * The array and PPEN, BL, RPEL, PEL, spoil and what waits stay; the counter, the mark, the load and the phase may not.
+ * SCL is high and SDA pulled afterwards. A busy chip reports 1 and ignores the START.
  * Refuses with 1, 2; *pulses is then 0.
  */
 CREP_CHECKED uint8_t crep_recover(struct crep_chip *chip, uint8_t *array, size_t array_len,
@@ -280,9 +316,11 @@ uint8_t crep_name(const uint8_t *record, size_t record_len, const uint8_t *stand
  * two pins and waits out the cycle where CREP_DONE stands; crep_run plays them on the model.
  *
  * They are for a chip of either part with the same select, idle in standby, RPEL 0, its load empty and the data wire
- * high, as crep_new and a power-up leave it. All 39 bytes are acknowledged. An unlocked sector then holds the record
- * (note 3 at event 76, note 1 at 711), a locked one stays (note 4 at 711), and every other byte of the array is kept.
- * The chip is idle in standby again, PEL 1, PPEN and BL as before.
+ * high, as crep_new and a power-up leave it. All 39 bytes are acknowledged. After CREP_DONE, event 712, an unlocked
+ * sector holds the record (note 3 at event 76, note 1 at 711), a locked one stays (note 4 at 711), and every other byte
+ * of the array is kept. The chip is idle in standby again, PEL 1, PPEN and BL as before.
+ * A power-up in between keeps every other sector, and this one too unless it comes in the cycle, between events 711 and
+ * 712: then each place holds its old byte or its new one, as chosen. examples/power_cut.c tries every point.
  * WARNING: on a chip with RPEL 1 the first message is a register write that sets PPEN 0 and BL 0: it unlocks the chip,
  * and the record is not stored (note 2 at event 76, no acknowledge after it). A power-up clears RPEL, and so does a
  * write to any unlocked sector.
@@ -297,9 +335,9 @@ CREP_CHECKED uint8_t crep_send(uint8_t select, uint16_t gate, const uint8_t *rec
  * A map is CREP_MAP bytes that you keep beside the array, a bit for each sector: sector k is bit k % 8 of byte k / 8,
  * bit 0 the lowest. It is set where the sector's record is not free: 32 bytes of FFh are free, a bad record is not.
  *
- * Build it once with crep_map_build; from then on crep_map_event and crep_map_run, in place of crep_event and crep_run,
- * keep it true. It falls behind where crep_event or crep_run runs on the same array, or where you write array bytes
- * yourself: build it again then. crep_recover writes no array byte and needs no map.
+ * Build it once with crep_map_build; from then on crep_map_event, crep_map_run and crep_map_power_up keep it true, in
+ * place of crep_event, crep_run and crep_power_up. It falls behind where one of these runs on the same array, or where
+ * you write array bytes yourself: build it again then. crep_recover writes no array byte and needs no map.
  */
 #define CREP_NO_SECTOR 512      /* crep_map_first: no sector is free */
 
@@ -320,14 +358,21 @@ CREP_CHECKED uint8_t crep_map_build(const uint8_t *array, size_t array_len, uint
 CREP_CHECKED uint8_t crep_map_first(const uint8_t *map, size_t map_len, uint16_t *sector);
 
 /*
- * crep_event with a map beside the array: chip, array and *answer become what crep_event makes of them. After note 1 or
- * 5 the bit of the sector that was written, the counter's, is set from the array: 1 where it is not free now, 0 where
- * it is, as after a spoil with FFh or a store of 32 bytes FFh. No other event changes the map, and no other bit of it
- * ever changes, true or not: a map that was true before is true after.
+ * crep_event with a map beside the array: chip, array and *answer become what crep_event makes of them. CREP_DONE and a
+ * power-up, on a busy chip with a waiting sector, set that sector's bit from the array as it is then: 1 where it is not
+ * free now, 0 where it is, as after a spoil with FFh or a store of 32 bytes FFh. No other event changes the map, a STOP
+ * neither, and no other bit of it ever changes, true or not: a map that was true before is true after.
  * Refuses with 1, 18, 2, 6; *answer is then 1.
  */
 CREP_CHECKED uint8_t crep_map_event(struct crep_chip *chip, uint8_t *array, size_t array_len,
                                     uint8_t *map, size_t map_len, uint8_t event, uint8_t *answer);
+
+/*
+ * crep_power_up with a map beside the array, which it keeps as crep_map_event does, whatever was chosen.
+ * Refuses with 1, 18, 2; *answer is then 1 too.
+ */
+CREP_CHECKED uint8_t crep_map_power_up(struct crep_chip *chip, uint8_t *array, size_t array_len,
+                                       uint8_t *map, size_t map_len, uint32_t choices, uint8_t *answer);
 
 /*
  * crep_run with a map beside the array: as crep_map_event for one event after the other. What crep_send wrote runs here
@@ -345,11 +390,11 @@ static inline const char *crep_note_text(int note)
 {
     static const char *const texts[] = {
         "nothing to say",
-        "stored: array cycle begun",
-        "register written: cycle begun",
+        "array cycle begun, to store the loaded bytes",
+        "register cycle begun, to set PPEN and BL",
         "PEL or RPEL set or cleared",
         "sector locked, nothing written",
-        "not exactly 32 bytes, sector spoilt: array cycle begun",
+        "not exactly 32 bytes: array cycle begun, to spoil the sector",
         "register byte not taken",
         "loaded bytes dropped"
     };
@@ -367,7 +412,7 @@ static inline const char *crep_refusal_text(int refusal)
         "no such part, or select above 7",
         "trace over 65536 events",
         "answer buffer shorter than the trace",
-        "an event byte above 9",
+        "an event byte above 11",
         "record buffer is not 32 bytes",
         "label over 24 bytes",
         "a label byte outside 20h-7Eh",

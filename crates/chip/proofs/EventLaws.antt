@@ -7,15 +7,17 @@ use native.Mathlib.Omega.{arith}
 use borrow.Author.Tests.{eqb-true, eq-eqb, ne-eqb}
 use lib.Dec.{eqb}
 use lib.ListN.{length}
-use Rattle.parts.proofs.CondLaws.{cond-true, cond-false}
-use Rattle.chip.specs.Chip.{chipFits, pulls, withLevels}
-use Rattle.chip.specs.Event.{next, nextArray, sampled, judged, judgedArray, reacted, reactedArray, edgeIn, lineIn, settled, refusal, answered, refused, eventAnswer, eventArray}
+use Rattle.parts.specs.Wait.{everyPlace}
+use Rattle.parts.proofs.CondLaws.{cond-false}
+use Rattle.chip.specs.Chip.{chipFits, pulls, withLevels, cutRegister}
+use Rattle.chip.specs.Event.{next, nextArray, sampled, judged, programDone, refusal, refused, eventAnswer, eventArray}
 use Rattle.chip.specs.Transfer.{quiet}
 use Rattle.chip.specs.Wire.{lineOf}
 use Rattle.chip.specs.declared.chip.Chip.{Chip}
 use Rattle.chip.specs.declared.wire.Event.{Event}
-use Rattle.chip.specs.declared.wire.Event.the-variants.{Sample, ProgramDone}
+use Rattle.chip.specs.declared.wire.Event.the-variants.{Sample, ProgramDone, PowerUp}
 use Rattle.chip.specs.declared.wire.Sample.{Sample as Levels}
+use Rattle.chip.proofs.CutLaws.{cut-idle}
 use Rattle.chip.proofs.RangeLaws.{next-fits}
 use Rattle.chip.proofs.ViewLaws.{next-length}
 
@@ -62,15 +64,21 @@ pub busy-sample : (s : Levels) (c : Chip) (xs : List ℕ) → c .busy ≡ true �
 unfolding next sampled judged pulls
 busy-sample s c xs b = rw b
 
--- nor does a sample on a busy chip write a byte
-pub busy-array : (s : Levels) (c : Chip) (xs : List ℕ) → c .busy ≡ true → nextArray (Sample s) c xs ≡ xs
-unfolding nextArray judgedArray
-busy-array s c xs b = cond-true (c .busy) xs _ b
+-- no sample writes a byte
+pub sample-array : (s : Levels) (c : Chip) (xs : List ℕ) → nextArray (Sample s) c xs ≡ xs
+unfolding nextArray
+sample-array s c xs = refl
 
--- a program-done changes nothing on an idle chip
-pub done-idle : (c : Chip) (xs : List ℕ) → c .busy ≡ false → next ProgramDone c xs ≡ quiet c
-unfolding next
-done-idle c xs b = rw b
+-- a program-done changes nothing on an idle chip, whatever it says that waits
+pub done-idle : (c : Chip) (xs : List ℕ) → c .busy ≡ false → (next ProgramDone c xs ≡ quiet c) × (nextArray ProgramDone c xs ≡ xs)
+unfolding next nextArray programDone
+done-idle c xs b = (ap quiet (cond-false (c .busy) _ c b), cut-idle everyPlace c xs b)
+
+-- a power-up of an idle chip does not look at the choices
+pub up-idle : (choices other : ℕ) (c : Chip) (xs : List ℕ) → c .busy ≡ false
+    → (next (PowerUp choices) c xs ≡ next (PowerUp other) c xs) × (nextArray (PowerUp choices) c xs ≡ xs)
+unfolding next nextArray cutRegister
+up-idle choices other c xs b = (rw b, cut-idle choices c xs b)
 
 -- the line that a sample leaves is the one with the pull after it
 pub sample-line : (s : Levels) (c : Chip) (xs : List ℕ) → next (Sample s) c xs .chip .line ≡ lineOf (pulls (next (Sample s) c xs .chip)) (s .sda)

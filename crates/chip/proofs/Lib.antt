@@ -1,3 +1,4 @@
+pub mod CutLaws
 pub mod EventLaws
 pub mod FitLaws
 pub mod LockLaws

@@ -1,74 +1,56 @@
--- What a lock and the protect pin keep over one event, and what a changed byte says. Assumes nothing.
-use Prim.Native.Nat.{ℕ, _%_}
-use mathlib.Core.Bool.{Bool, true, false, _&&_, true≢false}
-use mathlib.Core.Path.{_≡_, refl, sym, ap, _∙_}
+-- What a lock and the protect pin keep over one event; from power-up a chip is busy exactly where something waits, and no locked sector waits. Assumes nothing.
+use Prim.Native.Nat.{ℕ, _*_, _/_}
+use mathlib.Core.Bool.{Bool, true, false, cond, not, _&&_, true≢false, false≢true}
+use mathlib.Core.Path.{_≡_, refl, sym, ap, subst, _∙_}
 use mathlib.Core.List.{List}
-use native.Mathlib.Omega.{arith}
-use lib.ListN.{getD, getD-replicate}
-use Rattle.parts.specs.Load.{fullOf}
+use native.Mathlib.Decide.{ℕ-discrete}
+use lib.ListN.{getD}
 use Rattle.parts.specs.Locks.{locked}
+use Rattle.parts.specs.Register.{written}
 use Rattle.parts.specs.Sector.{sectorStart}
-use Rattle.parts.specs.declared.load.Load.{Load}
+use Rattle.parts.specs.Wait.{waits, alone}
 use Rattle.parts.specs.declared.register.Register.{Register}
-use Rattle.parts.proofs.LoadLaws.{stored-outside, stored-changed}
-use Rattle.parts.proofs.LockLaws.{locked-whole, locked-from-start}
-use Rattle.parts.proofs.RegisterLaws.{written-kept}
+use Rattle.parts.specs.declared.wait.Target.{Target}
+use Rattle.parts.specs.declared.wait.Target.the-variants.{None, Sector, Locks}
+use Rattle.parts.specs.declared.wait.Wait.{Wait}
+use Rattle.parts.proofs.CondLaws.{cond-by}
+use Rattle.parts.proofs.LockLaws.{locked-from-start}
+use Rattle.parts.proofs.RegisterLaws.{written-by, written-kept, written-guarded}
+use Rattle.chip.specs.Chip.{atPowerUp, cutRegister}
 use Rattle.chip.specs.Event.{next, nextArray}
-use Rattle.chip.specs.View.{pinHigh, Cycled, Did, Touched}
-use Rattle.chip.specs.View.Did.{nothing, finish, clear, change, store, spoil}
-use Rattle.chip.specs.View.Touched.{loaded, spoilt}
+use Rattle.chip.specs.Stop.{effectMoved, waitOr}
+use Rattle.chip.specs.View.{isSample, pinHigh, isLocks, openTo, byteWritten, Touched, Sound, SoundChip}
 use Rattle.chip.specs.declared.chip.Chip.{Chip}
 use Rattle.chip.specs.declared.wire.Event.{Event}
-use Rattle.chip.proofs.ViewLaws.{view, next-told}
+use Rattle.chip.specs.declared.wire.Event.the-variants.{Sample, ProgramDone, PowerUp}
+use Rattle.chip.specs.declared.wire.Sample.{Sample as Levels}
+use Rattle.chip.proofs.CutLaws.{cut-register, touched}
+use Rattle.chip.proofs.StepLaws.{next-by}
+use Rattle.chip.proofs.ViewLaws.{next-told}
 
--- a locked address is in no sector that is not locked
-apart : (part bl : ℕ) (pin : Bool) (a b : ℕ) → locked part bl pin a ≡ true → locked part bl pin (sectorStart b) ≡ false → sectorStart a ≡ sectorStart b → ⊥
-apart part bl pin a b shut unlocked same =
-    true≢false (sym shut ∙ locked-whole part bl pin a b same ∙ sym (locked-from-start part bl pin b) ∙ unlocked)
+-- in a cycle of the chip no locked sector waits
+abbrev pub Open : Chip → Type 0
+Open c = c .busy ≡ true → openTo (c .part) (c .register .bl) (c .wait .target) ≡ true
 
--- so a cycle keeps it, whatever it stores
-cycled-locked : {e : Event} {c : Chip} {xs : List ℕ} {load : Load} {after : Register} {busy : Bool} {ys : List ℕ} → Cycled e c xs load after busy ys
-    → (a : ℕ) → locked (c .part) (c .register .bl) (pinHigh e) a ≡ true → getD ys a 0 ≡ getD xs a 0
-cycled-locked {e} {c} {xs} {load} d a shut =
-    rw (d .array) (stored-outside xs (c .counter) load a (apart (c .part) (c .register .bl) (pinHigh e) a (c .counter) shut (d .writable .unlocked)))
+-- and no register byte
+abbrev pub NoLocks : Chip → Type 0
+NoLocks c = c .busy ≡ true → isLocks (c .wait .target) ≡ false
 
-module _ {e : Event} {c : Chip} {xs : List ℕ} {after : Register} {busy : Bool} {note : ℕ} {ys : List ℕ} where
-  -- what the view says of a locked byte
-  did-locked : Did e c xs after busy note ys → (a : ℕ) → locked (c .part) (c .register .bl) (pinHigh e) a ≡ true → getD ys a 0 ≡ getD xs a 0
-  did-locked (nothing d) a shut = rw (d .array)
-  did-locked (finish d) a shut = rw (d .array)
-  did-locked (clear d) a shut = rw (d .array)
-  did-locked (change d) a shut = rw (d .array)
-  did-locked (store d) a shut = cycled-locked (d .cycle) a shut
-  did-locked (spoil d) a shut = cycled-locked (d .cycle) a shut
+-- S8: a locked byte stays over every event, whatever waits, unless a caller let a locked sector wait
+pub locked-kept : (e : Event) (c : Chip) (xs : List ℕ) → Open c → (a : ℕ) → locked (c .part) (c .register .bl) true a ≡ true → getD (nextArray e c xs) a 0 ≡ getD xs a 0
+unfolding openTo
+locked-kept e c xs open′ a shut = go (ℕ-discrete (getD (nextArray e c xs) a 0) (getD xs a 0))
+  where
+    clash : Touched e c a (getD (nextArray e c xs) a 0) → ⊥
+    clash t =
+        let unlocked : not (locked (c .part) (c .register .bl) true (a / 32 * 32)) ≡ true = ap (openTo (c .part) (c .register .bl)) (sym (t .sector)) ∙ open′ (t .cycle) in
+        false≢true (ap not (sym (locked-from-start (c .part) (c .register .bl) true a ∙ shut)) ∙ unlocked)
 
-  -- what the view says of PPEN and BL under a high pin
-  did-guarded : Did e c xs after busy note ys → (c .register .ppen && pinHigh e) ≡ true → (after .ppen ≡ c .register .ppen) × (after .bl ≡ c .register .bl)
-  did-guarded (nothing d) high = rw (d .register) (refl, refl)
-  did-guarded (finish d) high = rw (d .register) (refl, refl)
-  did-guarded (clear d) high = rw (d .register) (refl, refl)
-  did-guarded (change d) high = rw (ap (λ w. w .register) (d .wrote)) (written-kept (c .register) (getD (c .load .bytes) 0 0) (pinHigh e) high)
-  did-guarded (store d) high = rw (d .cycle .register) (refl, refl)
-  did-guarded (spoil d) high = rw (d .cycle .register) (refl, refl)
+    go : Dec (getD (nextArray e c xs) a 0 ≡ getD xs a 0) → getD (nextArray e c xs) a 0 ≡ getD xs a 0
+    go (yes same) = same
+    go (no new) = absurd (clash (touched e c xs a new))
 
-  -- what the view says of a byte that changed
-  did-touched : Did e c xs after busy note ys → (a : ℕ) → (getD ys a 0 ≡ getD xs a 0 → ⊥) → Touched c a note (getD ys a 0)
-  did-touched (nothing d) a new = absurd (new (rw (d .array)))
-  did-touched (finish d) a new = absurd (new (rw (d .array)))
-  did-touched (clear d) a new = absurd (new (rw (d .array)))
-  did-touched (change d) a new = absurd (new (rw (d .array)))
-  did-touched (store d) a new =
-      let t = stored-changed xs (c .counter) (c .load) a (λ same. new (rw (d .cycle .array) same)) in
-      loaded (d .said) (t .0) (t .1) (rw (d .cycle .array) (t .2))
-  did-touched (spoil d) a new =
-      let t = stored-changed xs (c .counter) (fullOf (c .spoil)) a (λ same. new (rw (d .cycle .array) same)) in
-      spoilt (d .said) (t .0) (rw (d .cycle .array) (t .2 ∙ getD-replicate 32 (a % 32) (c .spoil) 0 (omega arith)))
-
--- a locked byte is kept over any event
-pub locked-kept : (e : Event) (c : Chip) (xs : List ℕ) (a : ℕ) → locked (c .part) (c .register .bl) (pinHigh e) a ≡ true → getD (nextArray e c xs) a 0 ≡ getD xs a 0
-locked-kept e c xs = did-locked (view e c xs)
-
--- where the counter's sector is locked, nothing is stored in it and it is not spoilt
+-- S8: where the counter's sector is locked, no store in it begins and no spoil
 pub locked-unspoilt : (e : Event) (c : Chip) (xs : List ℕ) → locked (c .part) (c .register .bl) (pinHigh e) (sectorStart (c .counter)) ≡ true
     → (next e c xs .note ≡ 1 → ⊥) × (next e c xs .note ≡ 5 → ⊥)
 locked-unspoilt e c xs shut =
@@ -77,13 +59,74 @@ locked-unspoilt e c xs shut =
       λ n. true≢false (sym shut ∙ told .five n .cycle .writable .unlocked),
     )
 
--- with PPEN set and the pin high, PPEN and BL stay over any event
-pub guarded-kept : (e : Event) (c : Chip) (xs : List ℕ) → c .register .ppen ≡ true → pinHigh e ≡ true
-    → (next e c xs .chip .register .ppen ≡ true) × (next e c xs .chip .register .bl ≡ c .register .bl)
-guarded-kept e c xs set high =
-    let did = did-guarded (view e c xs) (rw (set, high) refl) in
-    (did .0 ∙ set, did .1)
+-- U9: a cycle's end leaves the register unless PPEN and BL wait
+pub cut-same : (choices : ℕ) (c : Chip) → NoLocks c → cutRegister choices c ≡ c .register
+cut-same choices c none = cut-register choices c (λ r. r ≡ c .register) refl (λ b waiting. absurd (false≢true (sym (none b) ∙ waiting)))
 
--- a byte that an event changed lies in the counter's sector: the byte of a loaded place, with note 1, or the spoil byte, with note 5
-pub touched : (e : Event) (c : Chip) (xs : List ℕ) (a : ℕ) → (getD (nextArray e c xs) a 0 ≡ getD xs a 0 → ⊥) → Touched c a (next e c xs .note) (getD (nextArray e c xs) a 0)
-touched e c xs = did-touched (view e c xs)
+-- U9: PPEN and BL in force stay over every event but the end of a cycle for which they wait
+pub locks-kept : (e : Event) (c : Chip) (xs : List ℕ) → (isSample e ≡ false → NoLocks c)
+    → (next e c xs .chip .register .ppen ≡ c .register .ppen) × (next e c xs .chip .register .bl ≡ c .register .bl)
+unfolding effectMoved isSample
+locks-kept e c xs none =
+    next-by (λ m ys. Same (m .chip .register)) e c xs
+    (λ m ys scl line same. same)
+    (λ phase counter mark load note m. (refl, refl))
+    (λ stopped marks. written-kept (c .register) (getD (c .load .bytes) 0 0) (pinHigh e))
+    (λ short counted stopped writable. (refl, refl))
+    (λ done busy. ended _ (none (ap isSample done)), λ up. ended _ (none (ap isSample up)))
+  where
+    Same : Register → Type 0
+    Same r = (r .ppen ≡ c .register .ppen) × (r .bl ≡ c .register .bl)
+
+    ended : (choices : ℕ) → NoLocks c → Same (cutRegister choices c)
+    ended choices free = let same = cut-same choices c free in (ap (λ (r : Register). r .ppen) same, ap (λ (r : Register). r .bl) same)
+
+-- a cycle of the array begins for a sector that is not locked
+began-open : (part bl : ℕ) (pin : Bool) (counter : ℕ) → locked part bl pin (sectorStart counter) ≡ false → openTo part bl (Sector (counter / 32)) ≡ true
+unfolding openTo
+began-open part bl pin counter unlocked = ap not unlocked
+
+-- with PPEN set and the pin high, what waits after an event, where it did so before, locks nothing and is in no locked sector
+pub guarded-wait : (e : Event) (c : Chip) (xs : List ℕ) → c .register .ppen ≡ true → pinHigh e ≡ true → Open c → NoLocks c
+    → (next e c xs .chip .busy ≡ true → openTo (c .part) (c .register .bl) (next e c xs .chip .wait .target) ≡ true)
+    × (next e c xs .chip .busy ≡ true → isLocks (next e c xs .chip .wait .target) ≡ false)
+unfolding effectMoved isLocks
+guarded-wait e c xs set high open′ none =
+    next-by (λ m ys. (m .chip .busy ≡ true → openTo (c .part) (c .register .bl) (m .chip .wait .target) ≡ true) × (m .chip .busy ≡ true → isLocks (m .chip .wait .target) ≡ false)) e c xs
+    (λ m ys scl line same. same)
+    (λ phase counter mark load note m. (open′, none))
+    (λ stopped marks.
+    let idle = written-guarded (c .register) (getD (c .load .bytes) 0 0) (pinHigh e) (rw (set, high) refl) in
+    (λ busy. absurd (false≢true (sym idle ∙ busy)), λ busy. absurd (false≢true (sym idle ∙ busy))))
+    (λ short counted stopped writable. (λ busy. began-open (c .part) (c .register .bl) (pinHigh e) (c .counter) (writable .unlocked), λ busy. refl))
+    (λ done cycle. (λ busy. absurd (false≢true busy), λ busy. absurd (false≢true busy)), λ up. (λ busy. absurd (false≢true busy), λ busy. absurd (false≢true busy)))
+
+-- C16: a chip at power-up has nothing that waits and is idle
+pub up-sound : (part select : ℕ) (ppen : Bool) (bl spoil : ℕ) → SoundChip (atPowerUp part select ppen bl spoil)
+unfolding waits openTo
+up-sound part select ppen bl spoil = record { cycle = refl; unlocked = refl }
+
+-- a register byte at a stop lets its PPEN and BL wait and makes the chip busy, or leaves an idle chip as it was
+changed-sound : (part bl : ℕ) (r : Register) (byte : ℕ) (pin : Bool) (old : Wait) → Sound part bl false (old .target)
+    → Sound part bl (waits (written r byte pin .target)) (waitOr (written r byte pin .target) old .target)
+unfolding waits openTo
+changed-sound part bl r byte pin old sound =
+    written-by (λ w. Sound part bl (waits (w .target)) (waitOr (w .target) old .target)) r byte pin sound (λ on. sound) sound
+    (λ free ppen. record { cycle = refl; unlocked = refl })
+
+-- C16, U9: an event leaves a chip that is busy exactly where something waits, with no locked sector waiting, another such
+pub next-sound : (e : Event) (c : Chip) (xs : List ℕ) → SoundChip c → SoundChip (next e c xs .chip)
+unfolding effectMoved
+next-sound e c xs sound =
+    next-by (λ m ys. SoundChip (m .chip)) e c xs
+    (λ m ys scl line same. same)
+    (λ phase counter mark load note m. sound)
+    (λ stopped marks.
+    subst (λ (bl : ℕ). Sound (c .part) bl (waits (byteWritten e c .target)) (waitOr (byteWritten e c .target) (c .wait) .target)) (sym (written-kept (c .register) (getD (c .load .bytes) 0 0) (pinHigh e) .1))
+    (changed-sound (c .part) (c .register .bl) (c .register) (getD (c .load .bytes) 0 0) (pinHigh e) (c .wait) (subst (λ (busy : Bool). Sound (c .part) (c .register .bl) busy (c .wait .target)) (stopped .idle) sound)))
+    (λ short counted stopped writable. unfold waits in record { cycle = refl; unlocked = began-open (c .part) (c .register .bl) (pinHigh e) (c .counter) (writable .unlocked) })
+    (λ done busy. unfold waits openTo in record { cycle = refl; unlocked = refl }, λ up. unfold waits openTo in record { cycle = refl; unlocked = refl })
+
+-- such a chip has no locked sector waiting
+pub sound-open : (c : Chip) → SoundChip c → Open c
+sound-open c sound busy = sound .unlocked

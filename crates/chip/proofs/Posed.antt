@@ -7,7 +7,7 @@ use Rattle.chip.specs.declared.chip.Chip.{Chip}
 
 -- with its own a chip is itself
 abbrev pub posed : Chip → Bool → Bool → Bool → Phase → Chip
-posed c busy scl line phase = withTransfer (withLevels (withCycle c (c .register) busy) scl line) phase (c .counter) (c .mark) (c .load)
+posed c busy scl line phase = withTransfer (withLevels (withCycle c (c .register) busy (c .wait)) scl line) phase (c .counter) (c .mark) (c .load)
 
 -- with what they are known to be it is itself too
 pub posed-so : (c : Chip) {busy scl line : Bool} {phase : Phase} → c .busy ≡ busy → c .scl ≡ scl → c .line ≡ line → c .phase ≡ phase → posed c busy scl line phase ≡ c

@@ -6,10 +6,11 @@ use mathlib.Core.Path.{_≡_, refl, sym, ap, _∙_}
 use mathlib.Core.List.{List}
 use Rattle.parts.specs.Phase.{phaseFits, phasePulls}
 use Rattle.parts.specs.declared.phase.Phase.the-variants.{AckWrite}
-use Rattle.parts.proofs.CondLaws.{cond-false, and-right}
+use Rattle.parts.specs.Wait.{noWait, everyPlace, targetFits}
+use Rattle.parts.proofs.CondLaws.{cond-by, cond-false, and-right}
 use Rattle.parts.proofs.RowLaws.{stepped-by}
-use Rattle.chip.specs.Chip.{withLevels, chipFits, pulls, atPowerUp, newChip}
-use Rattle.chip.specs.Event.{next, lineIn, edgeIn}
+use Rattle.chip.specs.Chip.{withCycle, withLevels, chipFits, pulls, cutRegister, atPowerUp, newChip}
+use Rattle.chip.specs.Event.{next, lineIn, edgeIn, programDone}
 use Rattle.chip.specs.Run.{World, step, ran}
 use Rattle.chip.specs.Stop.{effectMoved}
 use Rattle.chip.specs.Transfer.{atPhase}
@@ -41,7 +42,7 @@ pub pulling-unstopped : (e : Event) (c : Chip) → pulls c ≡ true → stops e 
 unfolding stops
 pulling-unstopped (Sample s) c pulling = ap (λ line. isStop (edgeOf (c .scl) (s .scl) (c .line) line)) (pulled-line c s pulling) ∙ low-line (c .scl) (s .scl) (c .line)
 pulling-unstopped ProgramDone c pulling = refl
-pulling-unstopped PowerUp c pulling = refl
+pulling-unstopped (PowerUp choices) c pulling = refl
 
 -- with SCL high before and now, a low line is a START where the line was high, and no edge where it was low
 pub low-starts : (line : Bool) → edgeOf true true line false ≡ cond line Start Quiet
@@ -56,7 +57,7 @@ pulling-edge c s pulling before now = rw (pulling, before, now) (low-starts (c .
 -- such a chip can be handed in: in range, it pulls, and SCL and line are high
 pub pulling-high : let c : Chip = withLevels (atPhase (newChip 0 0) AckWrite) true true in
     (chipFits c ≡ true) × (pulls c ≡ true) × (c .scl ≡ true) × (c .line ≡ true)
-unfolding chipFits phaseFits pulls phasePulls
+unfolding chipFits phaseFits targetFits pulls phasePulls
 pulling-high = (refl, refl, refl, refl)
 
 -- where its pull is on its line it is no edge
@@ -79,8 +80,7 @@ turned-busy e c xs idle =
     (λ phase counter mark load note m busy. absurd (false≢true (sym idle ∙ busy)))
     (λ stopped marks busy. refl)
     (λ short counted stopped writable busy. refl)
-    (λ done busy. absurd (false≢true busy))
-    (λ up busy. refl)
+    (λ done cycle busy. absurd (false≢true busy), λ up busy. refl)
 
 -- a chip at power-up pulls nowhere
 pub up-shows : (part select : ℕ) (ppen : Bool) (bl spoil : ℕ) → Shows (atPowerUp part select ppen bl spoil)
@@ -89,23 +89,26 @@ up-shows part select ppen bl spoil pulling = absurd (false≢true pulling)
 
 -- an event leaves a chip whose pull is on its line another such
 pub next-shows : (e : Event) (c : Chip) (xs : List ℕ) → Shows c → Shows (next e c xs .chip)
-next-shows (Sample s) c xs shows pulling = go (c .busy) refl
+next-shows (Sample s) c xs shows = shown
   where
     after : Chip
     after = next (Sample s) c xs .chip
 
-    low : after .busy ≡ false → after .line ≡ false
-    low idle = sample-line s c xs ∙ ap (λ pull. lineOf pull (s .sda)) (pulls-so after idle pulling)
+    low : phasePulls (after .phase) ≡ true → after .busy ≡ false → after .line ≡ false
+    low pulling idle = sample-line s c xs ∙ ap (λ pull. lineOf pull (s .sda)) (pulls-so after idle pulling)
 
-    idle-too : (busy : Bool) → after .busy ≡ busy → c .busy ≡ false → after .busy ≡ false
-    idle-too false b idle = b
-    idle-too true b idle = absurd (false≢true (sym (turned-busy (Sample s) c xs idle b) ∙ pulling))
+    idle-too : phasePulls (after .phase) ≡ true → (busy : Bool) → after .busy ≡ busy → c .busy ≡ false → after .busy ≡ false
+    idle-too pulling false b idle = b
+    idle-too pulling true b idle = absurd (false≢true (sym (turned-busy (Sample s) c xs idle b) ∙ pulling))
 
-    go : (busy : Bool) → c .busy ≡ busy → (after .busy ≡ false) × (after .line ≡ false)
-    go false b = (idle-too (after .busy) refl b, low (idle-too (after .busy) refl b))
-    go true b = absurd (false≢true (sym (shows (sym (ap (λ m. phasePulls (m .chip .phase)) (busy-sample s c xs b)) ∙ pulling) .0) ∙ b))
-next-shows ProgramDone c xs shows pulling = unfold next in (refl, shows pulling .1)
-next-shows PowerUp c xs shows pulling = absurd (false≢true (unfold next phasePulls in pulling))
+    go : phasePulls (after .phase) ≡ true → (busy : Bool) → c .busy ≡ busy → (after .busy ≡ false) × (after .line ≡ false)
+    go pulling false b = (idle-too pulling (after .busy) refl b, low pulling (idle-too pulling (after .busy) refl b))
+    go pulling true b = absurd (false≢true (sym (shows (sym (ap (λ m. phasePulls (m .chip .phase)) (busy-sample s c xs b)) ∙ pulling) .0) ∙ b))
+
+    shown : Shows after
+    shown pulling = go pulling (c .busy) refl
+next-shows ProgramDone c xs shows = unfold next programDone in cond-by Shows (c .busy) (withCycle c (cutRegister everyPlace c) false noWait) c (λ b pulling. (refl, shows pulling .1)) (λ b. shows)
+next-shows (PowerUp choices) c xs shows = unfold next phasePulls in (λ pulling. absurd (false≢true pulling))
 
 -- and so does a row of events
 pub ran-shows : (es : List Event) (w : World) → Shows (w .chip) → Shows (ran es w .chip)

@@ -1,17 +1,16 @@
--- The walk of a step: what holds of a move, of a register change, of a cycle of the array, of a program-done and of a power-up holds of every event. Each rule
+-- The walk of a step: what holds of a move, of a register change, of a cycle of the array, of its end and of a power-up holds of every event. Each rule
 -- is followed here and nowhere else; a move brings with it what it keeps of the chip's ranges and bytes, and what its note may be. Assumes nothing.
 use Prim.Native.Nat.{ℕ, zero, suc, _+_, _*_, _%_, _≤_, _<_}
 use mathlib.Core.Bool.{Bool, true, false, cond}
-use mathlib.Core.Path.{_≡_, refl, ap}
+use mathlib.Core.Path.{_≡_, refl, sym, ap, subst}
 use mathlib.Core.List.{List}
 use native.Mathlib.Omega.{arith}
 use borrow.Author.Tests.{leb-true, le-leb}
 use lib.Dec.{eqb}
-use lib.ListN.{getD}
-use Rattle.parts.specs.Load.{noLoad, fullOf, loaded, stored}
+use Rattle.parts.specs.Load.{noLoad, fullOf, loaded}
 use Rattle.parts.specs.Phase.{phaseFits, risen}
-use Rattle.parts.specs.Register.{written}
-use Rattle.parts.specs.Sector.{sectorStart, nextPlace, nextAddress, Bytes}
+use Rattle.parts.specs.Sector.{nextPlace, nextAddress, Bytes}
+use Rattle.parts.specs.Wait.{everyPlace, noWait}
 use Rattle.parts.specs.declared.load.Load.{Load}
 use Rattle.parts.specs.declared.phase.Phase.{Phase}
 use Rattle.parts.specs.declared.phase.Phase.the-variants.{Standby, Slave, First, Second, Data, AckWrite, AckRead, AckFirst, AckByte, Sending, Waiting, Next}
@@ -20,12 +19,12 @@ use Rattle.parts.proofs.CondLaws.{cond-by}
 use Rattle.parts.proofs.LoadLaws.{loaded-most}
 use Rattle.parts.proofs.PhaseLaws.{gotOf, Small, risen-fits, risen-small}
 use Rattle.parts.proofs.SectorLaws.{next-place-fits, next-address-fits}
-use Rattle.chip.specs.Chip.{withTransfer, powerUp}
-use Rattle.chip.specs.Event.{next, nextArray, sampled, judged, judgedArray, reacted, reactedArray, edgeIn, lineIn, programDone, settled}
+use Rattle.chip.specs.Chip.{withTransfer, withCycle, cutRegister, cutArray, powerUp}
+use Rattle.chip.specs.Event.{next, nextArray, sampled, judged, reacted, edgeIn, lineIn, programDone, settled}
 use Rattle.chip.specs.Part.{selects, marked, enabled, partial}
-use Rattle.chip.specs.Stop.{cycling, effectMoved, effectArray}
+use Rattle.chip.specs.Stop.{cycling, effectMoved}
 use Rattle.chip.specs.Transfer.{moved, quiet, atPhase, emptyAt, fallIn, slaveTaken, addressed, addressTaken, arrayData, registerData, byteBegun, nextByte, byteEnded, dropNote}
-use Rattle.chip.specs.View.{pinHigh, mute, isStop, stops, Stopped, Writable}
+use Rattle.chip.specs.View.{pinHigh, mute, isStop, stops, choicesOf, byteWritten, Stopped, Writable}
 use Rattle.chip.specs.declared.chip.Chip.{Chip}
 use Rattle.chip.specs.declared.chip.Effect.the-variants.{Change}
 use Rattle.chip.specs.declared.chip.Moved.{Moved}
@@ -34,6 +33,7 @@ use Rattle.chip.specs.declared.wire.Edge.the-variants.{Quiet, Start, Sto
 use Rattle.chip.specs.declared.wire.Event.{Event}
 use Rattle.chip.specs.declared.wire.Event.the-variants.{Sample, ProgramDone, PowerUp}
 use Rattle.chip.specs.declared.wire.Sample.{Sample as Levels}
+use Rattle.chip.proofs.CutLaws.{cut-idle}
 use Rattle.chip.proofs.FitLaws.{Fits}
 use Rattle.chip.proofs.StopLaws.{drop-mute, stop-by}
 
@@ -70,7 +70,7 @@ module _ (P : Moved → Type 0) (c : Chip) (move : Moves P c) where
   jump phase counter mark p k g =
       move phase counter mark (c .load) 0
       (record {
-        fits = λ f. record { part = f .part; select = f .select; bl = f .bl; counter = k f; phase = p f; count = f .count };
+        fits = λ f. record { part = f .part; select = f .select; bl = f .bl; counter = k f; phase = p f; count = f .count; target = f .target };
         octets = λ o. record { loads = o .loads; got = g o };
         silent = refl;
       })
@@ -84,7 +84,7 @@ module _ (P : Moved → Type 0) (c : Chip) (move : Moves P c) where
   drop-at phase note p g q =
       move phase (c .counter) (c .mark) noLoad note
       (record {
-        fits = λ f. record { part = f .part; select = f .select; bl = f .bl; counter = f .counter; phase = p; count = omega arith };
+        fits = λ f. record { part = f .part; select = f .select; bl = f .bl; counter = f .counter; phase = p; count = omega arith; target = f .target };
         octets = λ o. none-octets phase g;
         silent = q;
       })
@@ -95,7 +95,7 @@ module _ (P : Moved → Type 0) (c : Chip) (move : Moves P c) where
   load-at counter at byte k b =
       move AckByte counter (c .mark) (loaded (c .load) at byte) 0
       (record {
-        fits = λ f. record { part = f .part; select = f .select; bl = f .bl; counter = k f; phase = refl; count = loaded-most (c .load) at byte };
+        fits = λ f. record { part = f .part; select = f .select; bl = f .bl; counter = k f; phase = refl; count = loaded-most (c .load) at byte; target = f .target };
         octets = λ o. record { loads = set-bytes (c .load .bytes) (at % 32) byte (o .loads) (b o); got = omega arith };
         silent = refl;
       })
@@ -167,25 +167,29 @@ module _ (P : Moved → Type 0) (c : Chip) (move : Moves P c) where
 
 -- `P` holds of the register byte's change that this event makes
 abbrev pub Changes : (Moved → List ℕ → Type 0) → Event → Chip → List ℕ → Type 0
-Changes P e c xs =
-    Stopped e c → marked (c .part) (c .mark) ≡ true
-    → P (effectMoved (Change (written (c .register) (getD (c .load .bytes) 0 0) (pinHigh e))) c) xs
+Changes P e c xs = Stopped e c → marked (c .part) (c .mark) ≡ true → P (effectMoved (Change (byteWritten e c)) c) xs
 
 -- `P` holds of the cycle that it begins: with the load, or, where the load is partial, with the spoil byte in all places
 abbrev pub Cycles : (Moved → List ℕ → Type 0) → Event → Chip → List ℕ → Type 0
 Cycles P e c xs =
     (short : Bool) → partial (c .part) (c .load .count) ≡ short → Stopped e c → Writable c (pinHigh e)
-    → P (cycling c (cond short 5 1)) (stored xs (sectorStart (c .counter)) (cond short (fullOf (c .spoil)) (c .load)))
+    → P (cycling c (cond short (fullOf (c .spoil)) (c .load)) (cond short 5 1)) xs
+
+-- `P` holds of the program-done that ends a cycle, and of a power-up
+abbrev pub Ends : (Moved → List ℕ → Type 0) → Event → Chip → List ℕ → Type 0
+Ends P e c xs =
+    (e ≡ ProgramDone → c .busy ≡ true → P (quiet (withCycle c (cutRegister everyPlace c) false noWait)) (cutArray everyPlace c xs))
+    × (e ≡ PowerUp (choicesOf e) → P (quiet (powerUp (choicesOf e) c)) (cutArray (choicesOf e) c xs))
 
 -- every edge of an idle chip is a move, a register change or a cycle
 react-by : (P : Moved → List ℕ → Type 0) (s : Levels) (c : Chip) (xs : List ℕ) (edge : Edge) → c .busy ≡ false → edgeIn c s ≡ edge
     → Moves (λ m. P m xs) c → Changes P (Sample s) c xs → Cycles P (Sample s) c xs
-    → P (reacted edge c (lineIn c s) (s .pin) xs) (reactedArray edge c (s .pin) xs)
-unfolding reacted reactedArray effectArray phaseFits gotOf mute pinHigh stops isStop
+    → P (reacted edge c (lineIn c s) (s .pin) xs) xs
+unfolding reacted phaseFits gotOf mute pinHigh stops isStop
 react-by P s c xs Quiet idle edge move change cycle = stay (λ m. P m xs) c move
 react-by P s c xs Start idle edge move change cycle = drop-at (λ m. P m xs) c move (Slave 0 0) (dropNote c) refl (omega arith) (drop-mute c)
 react-by P s c xs Stop idle edge move change cycle =
-    stop-by (λ effect. P (effectMoved effect c) (effectArray effect c xs)) c (s .pin)
+    stop-by (λ effect. P (effectMoved effect c) xs) c (s .pin)
     (λ note q. unfold effectMoved in drop-at (λ m. P m xs) c move Standby note refl (omega arith) q)
     (λ right some. change (record { idle = idle; stop = ap isStop edge; right = right; some = some }))
     (λ right some writable whole. unfold effectMoved in cycle false whole (record { idle = idle; stop = ap isStop edge; right = right; some = some }) writable)
@@ -197,23 +201,32 @@ react-by P s c xs Fall idle edge move change cycle = fall-by (λ m. P m xs) c mo
 -- a busy chip does not move, an idle one reacts
 judge-by : (P : Moved → List ℕ → Type 0) (s : Levels) (c : Chip) (xs : List ℕ)
     → Moves (λ m. P m xs) c → Changes P (Sample s) c xs → Cycles P (Sample s) c xs
-    → P (judged c xs (s .scl) (lineIn c s) (s .pin)) (judgedArray c xs (s .scl) (lineIn c s) (s .pin))
-unfolding judged judgedArray
+    → P (judged c xs (s .scl) (lineIn c s) (s .pin)) xs
+unfolding judged
 judge-by P s c xs move change cycle = go (c .busy) refl
   where
-    go : (busy : Bool) → c .busy ≡ busy
-        → P (cond busy (quiet c) (reacted (edgeIn c s) c (lineIn c s) (s .pin) xs)) (cond busy xs (reactedArray (edgeIn c s) c (s .pin) xs))
+    go : (busy : Bool) → c .busy ≡ busy → P (cond busy (quiet c) (reacted (edgeIn c s) c (lineIn c s) (s .pin) xs)) xs
     go true b = stay (λ m. P m xs) c move
     go false b = react-by P s c xs (edgeIn c s) b refl move change cycle
+
+-- a program-done ends a cycle, or leaves an idle chip
+done-by : (P : Moved → List ℕ → Type 0) (c : Chip) (xs : List ℕ) → Moves (λ m. P m xs) c
+    → (c .busy ≡ true → P (quiet (withCycle c (cutRegister everyPlace c) false noWait)) (cutArray everyPlace c xs))
+    → P (quiet (programDone c)) (cutArray everyPlace c xs)
+unfolding programDone
+done-by P c xs move end = go (c .busy) refl
+  where
+    go : (busy : Bool) → c .busy ≡ busy → P (quiet (cond busy (withCycle c (cutRegister everyPlace c) false noWait) c)) (cutArray everyPlace c xs)
+    go true b = end b
+    go false b = subst (λ ys. P (quiet c) ys) (sym (cut-idle everyPlace c xs b)) (stay (λ m. P m xs) c move)
 
 -- every event is a sample, which sets the levels besides, a program-done or a power-up
 pub next-by : (P : Moved → List ℕ → Type 0) (e : Event) (c : Chip) (xs : List ℕ)
     → ((m : Moved) (ys : List ℕ) (scl line : Bool) → P m ys → P (settled m scl line) ys)
-    → Moves (λ m. P m xs) c → Changes P e c xs → Cycles P e c xs
-    → (e ≡ ProgramDone → P (quiet (programDone c)) xs) → (e ≡ PowerUp → P (quiet (powerUp c)) xs)
+    → Moves (λ m. P m xs) c → Changes P e c xs → Cycles P e c xs → Ends P e c xs
     → P (next e c xs) (nextArray e c xs)
-unfolding next nextArray sampled
-next-by P (Sample s) c xs settle move change cycle done up =
-    settle (judged c xs (s .scl) (lineIn c s) (s .pin)) (judgedArray c xs (s .scl) (lineIn c s) (s .pin)) (s .scl) _ (judge-by P s c xs move change cycle)
-next-by P ProgramDone c xs settle move change cycle done up = done refl
-next-by P PowerUp c xs settle move change cycle done up = up refl
+unfolding next nextArray sampled choicesOf
+next-by P (Sample s) c xs settle move change cycle end =
+    settle (judged c xs (s .scl) (lineIn c s) (s .pin)) xs (s .scl) _ (judge-by P s c xs move change cycle)
+next-by P ProgramDone c xs settle move change cycle end = done-by P c xs move (end .0 refl)
+next-by P (PowerUp choices) c xs settle move change cycle end = end .1 refl

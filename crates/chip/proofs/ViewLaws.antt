@@ -1,4 +1,4 @@
--- The view of an event, and what it says at once: the array keeps its length, a sample that is no stop writes nothing, and what each note means.
+-- The view of an event, and what it says at once: the array keeps its length, a sample that is no stop begins nothing, and what each note means.
 -- Assumes nothing.
 use Prim.Native.Nat.{ℕ, _≤_}
 use mathlib.Core.Bool.{Bool, true, false, cond, _||_, false≢true}
@@ -12,33 +12,37 @@ use lib.ListN.{length, getD}
 use Rattle.parts.specs.Load.{fullOf}
 use Rattle.parts.specs.declared.register.Register.{Register}
 use Rattle.parts.specs.declared.register.Written.{Written}
-use Rattle.parts.proofs.LoadLaws.{length-stored}
+use Rattle.parts.specs.Wait.{everyPlace, waits}
+use Rattle.parts.specs.declared.wait.Wait.{Wait}
+use Rattle.parts.proofs.CondLaws.{cond-false}
 use Rattle.parts.proofs.RegisterLaws.{Noted, written-noted}
 use Rattle.chip.specs.Event.{next, nextArray}
 use Rattle.chip.specs.Part.{partial}
 use Rattle.chip.specs.Stop.{effectMoved}
-use Rattle.chip.specs.View.{isSample, pinHigh, stops, mute, Untouched, Changed, Cycled, Told, Did, DidBy}
+use Rattle.chip.specs.View.{isSample, pinHigh, stops, mute, byteWritten, Untouched, Changed, Cycled, Told, Did, DidBy}
 use Rattle.chip.specs.View.Did.{nothing, finish, clear, change, store, spoil}
 use Rattle.chip.specs.declared.chip.Chip.{Chip}
 use Rattle.chip.specs.declared.wire.Event.{Event}
-use Rattle.chip.specs.declared.wire.Event.the-variants.{Sample}
+use Rattle.chip.specs.declared.wire.Event.the-variants.{Sample, ProgramDone, PowerUp}
 use Rattle.chip.specs.declared.wire.Sample.{Sample as Levels}
+use Rattle.chip.proofs.CutLaws.{cut-length}
 use Rattle.chip.proofs.StepLaws.{next-by}
 
 -- the view of an event: other laws go by its cases
 pub view : (e : Event) (c : Chip) (xs : List ℕ) → DidBy e c xs
 unfolding effectMoved
 view e c xs =
-    next-by (λ m ys. Did e c xs (m .chip .register) (m .chip .busy) (m .note) ys) e c xs
+    next-by (λ m ys. Did e c xs (m .chip .register) (m .chip .busy) (m .chip .wait) (m .note) ys) e c xs
     (λ m ys scl line did. did)
-    (λ phase counter mark load note m. nothing (record { array = refl; register = refl; same = refl; silent = m .silent }))
-    (λ stopped marks. change (record { stopped = stopped; marks = marks; array = refl; wrote = refl }))
-    (λ short counted stopped writable. began short counted (record { stopped = stopped; writable = writable; array = refl; register = refl; began = refl }))
-    (λ event. finish (record { event = event; array = refl; register = refl; ended = refl; silent = refl }))
-    (λ event. clear (record { event = event; array = refl; register = refl; ended = refl; silent = refl }))
+    (λ phase counter mark load note m. nothing (record { array = refl; register = refl; same = refl; waiting = refl; silent = m .silent }))
+    (λ stopped marks. change (record { stopped = stopped; marks = marks; array = refl; register = refl; began = refl; waiting = refl; said = refl }))
+    (λ short counted stopped writable. began short counted (record { stopped = stopped; writable = writable; array = refl; register = refl; began = refl; waiting = refl })) (
+      λ event busy. finish (record { event = event; cycle = busy; array = refl; register = refl; ended = refl; waiting = refl; silent = refl }),
+      λ event. clear (record { event = event; array = refl; register = refl; ended = refl; waiting = refl; silent = refl }),
+    )
   where
-    began : (short : Bool) → partial (c .part) (c .load .count) ≡ short → {after : Register} {busy : Bool} {ys : List ℕ}
-        → Cycled e c xs (cond short (fullOf (c .spoil)) (c .load)) after busy ys → Did e c xs after busy (cond short 5 1) ys
+    began : (short : Bool) → partial (c .part) (c .load .count) ≡ short → {after : Register} {busy : Bool} {wait : Wait} {ys : List ℕ}
+        → Cycled e c xs (cond short (fullOf (c .spoil)) (c .load)) after busy wait ys → Did e c xs after busy wait (cond short 5 1) ys
     began true short cycle = spoil (record { short = short; cycle = cycle; said = refl })
     began false whole cycle = store (record { whole = whole; cycle = cycle; said = refl })
 
@@ -62,22 +66,13 @@ noted-most {w = w} noted = go (ℕ-discrete (w .note) 2) (ℕ-discrete (w .note)
     go (no e) (yes f) = omega arith
     go (no e) (no f) = omega (arith, noted .only e f)
 
-module _ {e : Event} {c : Chip} {xs : List ℕ} {after : Register} {busy : Bool} {note : ℕ} {ys : List ℕ} where
-  -- what the view says of the array's length
-  did-length : Did e c xs after busy note ys → length ys ≡ length xs
-  did-length (nothing d) = ap length (d .array)
-  did-length (finish d) = ap length (d .array)
-  did-length (clear d) = ap length (d .array)
-  did-length (change d) = ap length (d .array)
-  did-length (store d) = ap length (d .cycle .array) ∙ length-stored xs _ (c .load)
-  did-length (spoil d) = ap length (d .cycle .array) ∙ length-stored xs _ (fullOf (c .spoil))
-
-  -- what a changed register's note says
-  changed-noted : Changed e c xs after busy note ys → Noted (c .register) (record { register = after; busy = busy; note = note })
-  changed-noted d = rw (d .wrote) (written-noted (c .register) (getD (c .load .bytes) 0 0) (pinHigh e))
+module _ {e : Event} {c : Chip} {xs : List ℕ} {after : Register} {busy : Bool} {wait : Wait} {note : ℕ} {ys : List ℕ} where
+  -- what a register byte's note says
+  changed-noted : Changed e c xs after busy wait note ys → Noted (c .register) (byteWritten e c)
+  changed-noted d = written-noted (c .register) (getD (c .load .bytes) 0 0) (pinHigh e)
 
   -- note 0 says none of these
-  silent : note ≡ 0 → Told e c xs after busy note ys
+  silent : note ≡ 0 → Told e c xs after busy wait note ys
   silent n =
       record {
         one = λ m. absurd (omega arith);
@@ -87,8 +82,12 @@ module _ {e : Event} {c : Chip} {xs : List ℕ} {after : Register} {busy : Bool}
         more = λ m. absurd (omega arith);
       }
 
+  -- what waits stays where a register byte lets nothing wait
+  same-wait : Changed e c xs after busy wait note ys → waits (byteWritten e c .target) ≡ false → wait ≡ c .wait
+  same-wait d none = d .waiting ∙ cond-false (waits (byteWritten e c .target)) _ _ none
+
   -- what a note says
-  did-told : Did e c xs after busy note ys → Told e c xs after busy note ys
+  did-told : Did e c xs after busy wait note ys → Told e c xs after busy wait note ys
   unfolding mute
   did-told (nothing d) =
       record {
@@ -96,20 +95,26 @@ module _ {e : Event} {c : Chip} {xs : List ℕ} {after : Register} {busy : Bool}
         two = λ n. absurd (false≢true (rw n at (d .silent)));
         three = λ n. absurd (false≢true (rw n at (d .silent)));
         five = λ n. absurd (false≢true (rw n at (d .silent)));
-        more = λ n other. record { array = d .array; register = d .register; same = d .same };
+        more = λ n other. record { array = d .array; register = d .register; same = d .same; waiting = d .waiting };
       }
   did-told (finish d) = silent (d .silent)
   did-told (clear d) = silent (d .silent)
   did-told (change d) =
-      let noted : Noted (c .register) (record { register = after; busy = busy; note = note }) = changed-noted d in
+      let noted : Noted (c .register) (byteWritten e c) = changed-noted d in
+      let told : note ≡ byteWritten e c .note = d .said in
       record {
         one = λ n. absurd (omega (arith, noted .only (λ two. omega arith) (λ three. omega arith)));
-        two = λ n. (d, noted .two n .0, noted .two n .1, noted .two n .2);
-        three = λ n. (d, noted .three n .0, noted .three n .1, noted .three n .2);
+        two = λ n. (d, ap (λ (r : Register). r .rpel) (d .register) ∙ noted .two (sym told ∙ n) .0, ap (λ (r : Register). r .pel) (d .register) ∙ noted .two (sym told ∙ n) .1, d .began ∙ noted .two (sym told ∙ n) .2);
+        three = λ n. (d, d .began ∙ noted .three (sym told ∙ n));
         five = λ n. absurd (omega (arith, noted .only (λ two. omega arith) (λ three. omega arith)));
         more = λ n other.
-            let six : note ≡ 6 = noted .only (λ two. omega arith) (λ three. omega arith) in
-            record { array = d .array; register = noted .six six .0; same = noted .six six .1 ∙ sym (d .stopped .idle) };
+            let six : byteWritten e c .note ≡ 6 = noted .only (λ two. omega arith) (λ three. omega arith) in
+            record {
+              array = d .array;
+              register = d .register ∙ noted .six six .0;
+              same = d .began ∙ noted .six six .1 ∙ sym (d .stopped .idle);
+              waiting = same-wait d (noted .six six .1);
+            };
       }
   did-told (store d) =
       record {
@@ -129,9 +134,9 @@ module _ {e : Event} {c : Chip} {xs : List ℕ} {after : Register} {busy : Bool}
       }
 
   -- what the view says of a sample that is no stop
-  did-unstopped : (s : Levels) → e ≡ Sample s → stops e c ≡ false → Did e c xs after busy note ys → Untouched c xs after busy ys
+  did-unstopped : (s : Levels) → e ≡ Sample s → stops e c ≡ false → Did e c xs after busy wait note ys → Untouched c xs after busy wait ys
   unfolding isSample
-  did-unstopped s here other (nothing d) = record { array = d .array; register = d .register; same = d .same }
+  did-unstopped s here other (nothing d) = record { array = d .array; register = d .register; same = d .same; waiting = d .waiting }
   did-unstopped s here other (finish d) = absurd (false≢true (sym (ap isSample (d .event)) ∙ ap isSample here))
   did-unstopped s here other (clear d) = absurd (false≢true (sym (ap isSample (d .event)) ∙ ap isSample here))
   did-unstopped s here other (change d) = absurd (false≢true (sym other ∙ d .stopped .stop))
@@ -139,26 +144,29 @@ module _ {e : Event} {c : Chip} {xs : List ℕ} {after : Register} {busy : Bool}
   did-unstopped s here other (spoil d) = absurd (false≢true (sym other ∙ d .cycle .stopped .stop))
 
   -- no note is above 7
-  did-note : Did e c xs after busy note ys → note ≤ 7
+  did-note : Did e c xs after busy wait note ys → note ≤ 7
   did-note (nothing d) = mute-most note (d .silent)
   did-note (finish d) = omega (arith, d .silent)
   did-note (clear d) = omega (arith, d .silent)
-  did-note (change d) = noted-most (changed-noted d)
+  did-note (change d) = omega (arith, d .said, noted-most (changed-noted d))
   did-note (store d) = omega (arith, d .said)
   did-note (spoil d) = omega (arith, d .said)
 
 -- an event keeps the array's length
 pub next-length : (e : Event) (c : Chip) (xs : List ℕ) → length (nextArray e c xs) ≡ length xs
-next-length e c xs = did-length (view e c xs)
+unfolding nextArray
+next-length (Sample s) c xs = refl
+next-length ProgramDone c xs = cut-length everyPlace c xs
+next-length (PowerUp choices) c xs = cut-length choices c xs
 
 -- no event has a note above 7
 pub next-note : (e : Event) (c : Chip) (xs : List ℕ) → next e c xs .note ≤ 7
 next-note e c xs = did-note (view e c xs)
 
 -- the note of an event says what it did
-pub next-told : (e : Event) (c : Chip) (xs : List ℕ) → Told e c xs (next e c xs .chip .register) (next e c xs .chip .busy) (next e c xs .note) (nextArray e c xs)
+pub next-told : (e : Event) (c : Chip) (xs : List ℕ) → Told e c xs (next e c xs .chip .register) (next e c xs .chip .busy) (next e c xs .chip .wait) (next e c xs .note) (nextArray e c xs)
 next-told e c xs = did-told (view e c xs)
 
--- a sample that is no stop writes nothing
-pub unstopped : (s : Levels) (c : Chip) (xs : List ℕ) → stops (Sample s) c ≡ false → Untouched c xs (next (Sample s) c xs .chip .register) (next (Sample s) c xs .chip .busy) (nextArray (Sample s) c xs)
+-- a sample that is no stop changes none of these
+pub unstopped : (s : Levels) (c : Chip) (xs : List ℕ) → stops (Sample s) c ≡ false → Untouched c xs (next (Sample s) c xs .chip .register) (next (Sample s) c xs .chip .busy) (next (Sample s) c xs .chip .wait) (nextArray (Sample s) c xs)
 unstopped s c xs other = did-unstopped s refl other (view (Sample s) c xs)

@@ -1,25 +1,30 @@
--- The chip: its fields set group by group, the ranges of its numbers, its pull, and how it is made. (RULES C1-C15, F2, F3, L1, U4.)
+-- The chip: its fields set group by group, the ranges of its numbers, its pull, and how it is made. (RULES C1-C16, F2, F3, L1, U3, U4, U7, U8.)
 --
 -- | Name | Meaning |
 -- |---|---|
 -- | `withTransfer c phase counter mark load` | the chip elsewhere in its transfer |
--- | `withCycle c register busy` | the chip with another register and busy flag |
+-- | `withCycle c register busy wait` | the chip with another register, busy flag and wait |
 -- | `withLevels c scl line` | the chip with other last levels |
 -- | `withSpoil c spoil` | the chip with another spoil byte |
 -- | `chipFits` | every number is in its range: else refusal 2 |
 -- | `pulls` | the chip pulls the line |
 -- | `atPowerUp` | a chip as power-up leaves it |
--- | `powerUp`, `newChip`, `standardChip` | after a power-up; new of a part and a select; the standard one |
+-- | `cutRegister`, `cutArray` | the register and the array where a cycle ends, or is cut off, with these choices |
+-- | `powerUp choices` | after a power-up with these choices |
+-- | `newChip`, `standardChip` | new of a part and a select; the standard one |
 -- | `made` | what a new chip answers |
 use Prim.Native.Nat.{ℕ}
 use mathlib.Core.Bool.{Bool, true, false, not, cond, _&&_}
+use mathlib.Core.List.{List}
 use lib.Dec.{leb}
 use Rattle.parts.specs.Load.{noLoad}
 use Rattle.parts.specs.Phase.{phaseFits, phasePulls}
+use Rattle.parts.specs.Wait.{noWait, targetFits, endArray, locksTaken}
 use Rattle.parts.specs.declared.load.Load.{Load}
 use Rattle.parts.specs.declared.phase.Phase.{Phase}
 use Rattle.parts.specs.declared.phase.Phase.the-variants.{Standby}
 use Rattle.parts.specs.declared.register.Register.{Register}
+use Rattle.parts.specs.declared.wait.Wait.{Wait}
 use Rattle.chip.specs.declared.chip.Chip.{Chip}
 use Rattle.chip.specs.declared.chip.Made.{Made}
 
@@ -38,11 +43,12 @@ withTransfer c phase counter mark load =
       phase = phase;
       load = load;
       spoil = c .spoil;
+      wait = c .wait;
     }
 
--- C2, C5: what a cycle changes
-abbrev pub withCycle : Chip → Register → Bool → Chip
-withCycle c register busy =
+-- C2, C5, C16: what a cycle changes
+abbrev pub withCycle : Chip → Register → Bool → Wait → Chip
+withCycle c register busy wait =
     record {
       part = c .part;
       select = c .select;
@@ -55,6 +61,7 @@ withCycle c register busy =
       phase = c .phase;
       load = c .load;
       spoil = c .spoil;
+      wait = wait;
     }
 
 -- C6: what a sample leaves in every case
@@ -72,6 +79,7 @@ withLevels c scl line =
       phase = c .phase;
       load = c .load;
       spoil = c .spoil;
+      wait = c .wait;
     }
 
 -- C15: what nobody but its owner changes
@@ -89,9 +97,11 @@ withSpoil c spoil =
       phase = c .phase;
       load = c .load;
       spoil = spoil;
+      wait = c .wait;
     }
 
--- C1-C3, C7-C9, F2: part 0-1, select 0-7, BL 0-3, counter 0-3FFFh, the phase's own where it carries them (reading), count 0-33
+-- C1-C3, C7-C9, C16, F2: part 0-1, select 0-7, BL 0-3, counter 0-3FFFh, the phase's own where it carries them (reading), count 0-33, and the waiting sector or
+-- BL where one is carried
 unfoldable pub chipFits : Chip → Bool
 chipFits c =
     leb (c .part) 1
@@ -100,13 +110,13 @@ chipFits c =
     && leb (c .counter) 0x3fff
     && phaseFits (c .phase)
     && leb (c .load .count) 33
+    && targetFits (c .wait .target)
 
 -- L1, U1: a busy chip pulls nowhere
 unfoldable pub pulls : Chip → Bool
 pulls c = not (c .busy) && phasePulls (c .phase)
 
--- U4, U5: PPEN, BL and the spoil byte outlive the supply; all else is cleared, with SCL low and the line high as the last levels; a cycle in progress counts as
--- finished (house)
+-- U4: PPEN, BL and the spoil byte outlive the supply; all else is cleared, with SCL low and the line high as the last levels, and nothing waits
 abbrev pub atPowerUp : ℕ → ℕ → Bool → ℕ → ℕ → Chip
 atPowerUp part select ppen bl spoil =
     record {
@@ -121,11 +131,20 @@ atPowerUp part select ppen bl spoil =
       phase = Standby;
       load = noLoad;
       spoil = spoil;
+      wait = noWait;
     }
 
--- the same chip after a power-up
-abbrev pub powerUp : Chip → Chip
-powerUp c = atPowerUp (c .part) (c .select) (c .register .ppen) (c .register .bl) (c .spoil)
+-- U3, U7, U8: only a cycle that is in progress can be cut; its waiting PPEN and BL are taken by the choices
+unfoldable pub cutRegister : ℕ → Chip → Register
+cutRegister choices c = cond (c .busy) (locksTaken (c .wait .target) choices (c .register)) (c .register)
+
+-- and so is its waiting sector
+unfoldable pub cutArray : ℕ → Chip → List ℕ → List ℕ
+cutArray choices c xs = cond (c .busy) (endArray (c .wait) choices xs) xs
+
+-- U4, U7: the same chip after a power-up with these choices
+abbrev pub powerUp : ℕ → Chip → Chip
+powerUp choices c = atPowerUp (c .part) (c .select) (cutRegister choices c .ppen) (cutRegister choices c .bl) (c .spoil)
 
 -- C13, C15: PPEN clear, BL 0, spoil byte FFh
 abbrev pub newChip : ℕ → ℕ → Chip

@@ -1,15 +1,15 @@
 -- One event: a sample, program-done or power-up; what it answers, and when it is refused.
--- (RULES E1, E2, L2-L8, U1-U5, F1, F2, O2, O9, O10.)
+-- (RULES E1, E2, L2-L8, U1-U4, U7, F1, F2, O2, O9, O10.)
 --
 -- | Name | Meaning |
 -- |---|---|
--- | `reacted`, `reactedArray` | the chip and the array after an edge, with the line and the pin of its sample |
+-- | `reacted` | the chip after an edge, with the line and the pin of its sample |
 -- | `lineIn`, `edgeIn` | the line in a sample, with the pull before it; the sample's edge |
--- | `judged`, `judgedArray` | after an edge of a line that is handed in; a busy chip ignores it |
+-- | `judged` | after an edge of a line that is handed in; a busy chip ignores it |
 -- | `settled` | with these last levels |
--- | `sampled`, `sampledArray` | after a sample |
+-- | `sampled` | after a sample |
 -- | `programDone` | after a program-done |
--- | `next`, `nextArray` | after an event |
+-- | `next`, `nextArray` | the chip with its note, and the array, after an event |
 -- | `refusal` | 1, 2 or none |
 -- | `answered`, `refused` | an answer, and one that refuses |
 -- | `eventAnswer`, `eventArray` | what one event answers, and the array at its exit |
@@ -19,8 +19,9 @@ use mathlib.Core.List.{List}
 use lib.Dec.{eqb}
 use lib.ListN.{length}
 use Rattle.parts.specs.Phase.{risen}
-use Rattle.chip.specs.Chip.{withCycle, withLevels, chipFits, pulls, powerUp}
-use Rattle.chip.specs.Stop.{stopEffect, effectMoved, effectArray}
+use Rattle.parts.specs.Wait.{everyPlace, noWait}
+use Rattle.chip.specs.Chip.{withCycle, withLevels, chipFits, pulls, cutRegister, cutArray, powerUp}
+use Rattle.chip.specs.Stop.{stopEffect, effectMoved}
 use Rattle.chip.specs.Transfer.{moved, quiet, atPhase, started, fell}
 use Rattle.chip.specs.Wire.{lineOf, edgeOf}
 use Rattle.chip.specs.declared.event.Answer.{Answer}
@@ -40,14 +41,6 @@ reacted Stop c line pin xs = effectMoved (stopEffect c pin) c
 reacted Rise c line pin xs = quiet (atPhase c (risen (c .phase) line))
 reacted Fall c line pin xs = fell c xs
 
--- only a stop can write
-unfoldable pub reactedArray : Edge → Chip → Bool → List ℕ → List ℕ
-reactedArray Quiet c pin xs = xs
-reactedArray Start c pin xs = xs
-reactedArray Stop c pin xs = effectArray (stopEffect c pin) c xs
-reactedArray Rise c pin xs = xs
-reactedArray Fall c pin xs = xs
-
 -- L2, L3: a sample is judged with the pull before it (reading)
 abbrev pub lineIn : Chip → Levels → Bool
 lineIn c s = lineOf (pulls c) (s .sda)
@@ -60,10 +53,6 @@ edgeIn c s = edgeOf (c .scl) (s .scl) (c .line) (lineIn c s)
 unfoldable pub judged : Chip → List ℕ → Bool → Bool → Bool → Moved
 judged c xs scl line pin = cond (c .busy) (quiet c) (reacted (edgeOf (c .scl) scl (c .line) line) c line pin xs)
 
--- and writes nothing
-unfoldable pub judgedArray : Chip → List ℕ → Bool → Bool → Bool → List ℕ
-judgedArray c xs scl line pin = cond (c .busy) xs (reactedArray (edgeOf (c .scl) scl (c .line) line) c pin xs)
-
 -- L6: the levels are kept in every case
 abbrev pub settled : Moved → Bool → Bool → Moved
 settled m scl line = moved (withLevels (m .chip) scl line) (m .note)
@@ -74,25 +63,21 @@ sampled c xs s =
     let m : Moved = judged c xs (s .scl) (lineIn c s) (s .pin) in
     settled m (s .scl) (lineOf (pulls (m .chip)) (s .sda))
 
--- what its reaction leaves
-abbrev pub sampledArray : Chip → List ℕ → Levels → List ℕ
-sampledArray c xs s = judgedArray c xs (s .scl) (lineIn c s) (s .pin)
-
--- U3: busy ends, all else stays, the kept line too
-abbrev pub programDone : Chip → Chip
-programDone c = withCycle c (c .register) false
+-- U3: what waits is written whole, busy ends and nothing waits; all else stays, the kept line too. An idle chip stays as it is
+unfoldable pub programDone : Chip → Chip
+programDone c = cond (c .busy) (withCycle c (cutRegister everyPlace c) false noWait) c
 
 -- E2, L6: the reported line is the one that the next chip keeps
 unfoldable pub next : Event → Chip → List ℕ → Moved
 next (Sample s) c xs = sampled c xs s
 next ProgramDone c xs = quiet (programDone c)
-next PowerUp c xs = quiet (powerUp c)
+next (PowerUp choices) c xs = quiet (powerUp choices c)
 
--- only a sample can write
+-- U3, U7: only the end of a cycle writes: a program-done, or a power-up that cuts it off
 unfoldable pub nextArray : Event → Chip → List ℕ → List ℕ
-nextArray (Sample s) c xs = sampledArray c xs s
-nextArray ProgramDone c xs = xs
-nextArray PowerUp c xs = xs
+nextArray (Sample s) c xs = xs
+nextArray ProgramDone c xs = cutArray everyPlace c xs
+nextArray (PowerUp choices) c xs = cutArray choices c xs
 
 -- F1, F2: 1 for an array that is not 16,384 bytes, then 2 for a number outside its range
 unfoldable pub refusal : Chip → List ℕ → ℕ

@@ -1,4 +1,4 @@
--- What a STOP does to a chip that is not busy, by one of four effects. (RULES S1, S3-S12, S16, S18, N1, N4, N5.)
+-- What a STOP does to a chip that is not busy, by one of four effects. (RULES S1, S3-S9, S11, S12, S16, S18, N1, N4, N5.)
 --
 -- | Name | Meaning |
 -- |---|---|
@@ -7,18 +7,23 @@
 -- | `rightEffect` | what a rightly placed stop does |
 -- | `stopEffect` | what any stop does |
 -- | `rested` | the chip in standby with an empty load |
--- | `cycling` | the same, busy with a cycle of the array, and its note |
--- | `effectMoved`, `effectArray` | the chip and its note, and the array, after an effect |
-use Prim.Native.Nat.{ℕ}
+-- | `sectorIn` | the number of the counter's sector |
+-- | `cycling` | the same, busy with a cycle of the array for which this load waits, and its note |
+-- | `waitOr` | this waits, or what waited before |
+-- | `effectMoved` | the chip and its note after an effect |
+use Prim.Native.Nat.{ℕ, _/_}
 use mathlib.Core.Bool.{Bool, true, false, cond}
-use mathlib.Core.List.{List}
 use lib.Dec.{eqb}
 use lib.ListN.{getD}
-use Rattle.parts.specs.Load.{noLoad, fullOf, stored}
+use Rattle.parts.specs.Load.{noLoad, fullOf}
 use Rattle.parts.specs.Locks.{locked}
 use Rattle.parts.specs.Register.{written, withRpel}
 use Rattle.parts.specs.Sector.{sectorStart}
+use Rattle.parts.specs.Wait.{alone, waitFor, waits}
+use Rattle.parts.specs.declared.load.Load.{Load}
 use Rattle.parts.specs.declared.register.Register.{Register}
+use Rattle.parts.specs.declared.wait.Target.{Target}
+use Rattle.parts.specs.declared.wait.Wait.{Wait}
 use Rattle.parts.specs.declared.phase.Phase.{Phase}
 use Rattle.parts.specs.declared.phase.Phase.the-variants.{Standby, Slave, First, Second, Data, AckWrite, AckRead, AckFirst, AckByte, Sending, Waiting, Next}
 use Rattle.chip.specs.Chip.{withTransfer, withCycle}
@@ -63,23 +68,25 @@ unfoldable pub stopEffect : Chip → Bool → Effect
 stopEffect c pin = cond (rightly (c .phase)) (rightEffect c pin) (Nothing (dropNote c))
 
 -- S1: a stop always leads here
-abbrev pub rested : Chip → Register → ℕ → Bool → Bool → Chip
-rested c register counter mark busy = withTransfer (withCycle c register busy) Standby counter mark noLoad
+abbrev pub rested : Chip → Register → ℕ → Bool → Bool → Wait → Chip
+rested c register counter mark busy wait = withTransfer (withCycle c register busy wait) Standby counter mark noLoad
 
--- S7, S9, S11: a cycle of the array clears RPEL
-abbrev pub cycling : Chip → ℕ → Moved
-cycling c note = moved (rested c (withRpel (c .register) false) (c .counter) (c .mark) true) note
+-- C11: the number of the counter's sector
+abbrev pub sectorIn : Chip → ℕ
+sectorIn c = c .counter / 32
 
--- S12, S16, N1, N5: a register byte clears counter and mark; a store and a spoil begin a cycle
+-- S7, S9, S11, S18: a cycle of the array clears RPEL; what it will write waits for the counter's sector
+abbrev pub cycling : Chip → Load → ℕ → Moved
+cycling c load note = moved (rested c (withRpel (c .register) false) (c .counter) (c .mark) true (waitFor (sectorIn c) load)) note
+
+-- S16, S18: PPEN and BL wait where a cycle begins; where none does, what a caller's chip carries there stays (reading)
+abbrev pub waitOr : Target → Wait → Wait
+waitOr target old = cond (waits target) (alone target) old
+
+-- S12, S16, N1, N5: a register byte clears counter and mark; a store and a spoil begin a cycle, with the loaded places, or all 32 with the spoil byte. None of them writes
+-- a byte of the array (U3)
 unfoldable pub effectMoved : Effect → Chip → Moved
 effectMoved (Nothing note) c = moved (emptyAt c Standby) note
-effectMoved (Change w) c = moved (rested c (w .register) 0x0000 false (w .busy)) (w .note)
-effectMoved Store c = cycling c 1
-effectMoved Spoil c = cycling c 5
-
--- S7, S9, S10, S18: only these two write, at the STOP (reading), and only in the counter's sector: the loaded places, or all 32 the spoil byte
-unfoldable pub effectArray : Effect → Chip → List ℕ → List ℕ
-effectArray (Nothing note) c xs = xs
-effectArray (Change w) c xs = xs
-effectArray Store c xs = stored xs (sectorStart (c .counter)) (c .load)
-effectArray Spoil c xs = stored xs (sectorStart (c .counter)) (fullOf (c .spoil))
+effectMoved (Change w) c = moved (rested c (w .register) 0x0000 false (waits (w .target)) (waitOr (w .target) (c .wait))) (w .note)
+effectMoved Store c = cycling c (c .load) 1
+effectMoved Spoil c = cycling c (fullOf (c .spoil)) 5

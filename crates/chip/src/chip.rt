@@ -7,6 +7,7 @@ use parts::load::Load;
 use parts::phase::Phase;
 use parts::register::Register;
 use parts::register::Written;
+use parts::wait::Wait;
 
 pub struct Chip {
     // Chip::X24128 or Chip::X24F128
@@ -31,6 +32,8 @@ pub struct Chip {
     pub load: Load,
     // what a load that the part does not take leaves in its sector, any byte
     pub spoil: u8,
+    // what the cycle in progress will write
+    pub wait: Wait,
 }
 
 // What a new chip answers.
@@ -45,7 +48,7 @@ pub struct Moved {
     pub note: u8,
 }
 
-// All that one event can do to the register and the array.
+// All that a stop can do to the register, and all that it can let wait.
 pub enum Effect {
     Nothing { note: u8 },
     Change(Written),
@@ -77,6 +80,7 @@ impl Chip {
         ensures { λ r. ⌜ r ≡ atPowerUp part select ppen bl spoil ⌝ }
     {
         let load = Load::none();
+        let wait = Wait::none();
         Chip {
             part: part,
             select: select,
@@ -94,6 +98,7 @@ impl Chip {
             phase: Phase::Standby,
             load: load,
             spoil: spoil,
+            wait: wait,
         }
     }
 
@@ -143,13 +148,17 @@ impl Chip {
     {
         let phase = self.phase;
         let load = self.load;
+        let wait = self.wait;
+        let target = wait.target;
         let fit = phase.fits();
+        let held = target.fits();
         (self.part <= 1)
             & (self.select <= 7)
             & (self.register.bl <= 3)
             & (self.counter <= 0x3fff)
             & fit
             & (load.count <= 33)
+            & held
     }
 
     // Whether the chip pulls the line.

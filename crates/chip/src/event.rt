@@ -1,8 +1,11 @@
 // One event: the edge of a sample and what it does, program-done, power-up, and the refusals before them.
 ghost use mathlib.Core.Path.{_≡_};
-ghost use Rattle.chip.specs.Chip.{pulls};
+ghost use Rattle.parts.specs.Wait.{everyPlace};
+ghost use Rattle.chip.specs.Chip.{pulls, cutRegister, cutArray, powerUp};
+ghost use Rattle.chip.specs.Transfer.{quiet};
 ghost use Rattle.chip.specs.Wire.{lineOf};
-ghost use Rattle.chip.specs.Event.{refusal, eventAnswer, eventArray, reacted, reactedArray, sampled, sampledArray, next, nextArray, settled};
+ghost use Rattle.chip.specs.Event.{refusal, answered, refused, eventAnswer, eventArray, reacted, sampled, programDone, next, nextArray, settled};
+ghost use Rattle.chip.specs.declared.wire.Event.the-variants.{PowerUp};
 use crate::chip::Chip;
 use crate::chip::Moved;
 use crate::chip::quietly;
@@ -11,6 +14,9 @@ use crate::wire::Event;
 use crate::wire::Sample;
 use crate::wire::edge_of;
 use crate::wire::line_of;
+use parts::register::Register;
+use parts::wait::EVERY_PLACE;
+use parts::wait::Wait;
 
 // What one event answers.
 pub struct Answer {
@@ -36,26 +42,39 @@ impl Moved {
             note: self.note,
         }
     }
+
+    // What an event answers that is taken.
+    fn answered(self) -> Answer
+        ensures { λ r. ⌜ r ≡ answered 0 self ⌝ }
+    {
+        let chip = self.chip;
+        Answer {
+            refusal: 0,
+            chip: chip,
+            line: chip.line,
+            note: self.note,
+        }
+    }
 }
 
 impl Chip {
     // What an edge does, with the line and the pin of its sample.
-    fn react(self, array: &mut [u8], edge: Edge, line: bool, pin: bool) -> Moved
-        ensures { λ r. ⌜ (r ≡ reacted edge self line pin (now (array .entry))) × (now (array .exit) ≡ reactedArray edge self pin (now (array .entry))) ⌝ }
+    fn react(self, array: &[u8], edge: Edge, line: bool, pin: bool) -> Moved
+        ensures { λ r. ⌜ r ≡ reacted edge self line pin (now (array .entry)) ⌝ }
     {
         match edge {
             Edge::Quiet => quietly(self),
             Edge::Start => self.start(),
-            Edge::Stop => self.stop(array, pin),
+            Edge::Stop => self.stop(pin),
             Edge::Rise => quietly(self.rise(line)),
-            Edge::Fall => self.fall(&array[..]),
+            Edge::Fall => self.fall(array),
         }
     }
 
     // A sample on wires of its own: a busy chip keeps the levels alone; another is judged with the pull before the sample, and the line that is
     // kept has the pull after it.
-    fn sample(self, array: &mut [u8], sample: Sample) -> Moved
-        ensures { λ r. ⌜ (r ≡ sampled self (now (array .entry)) sample) × (now (array .exit) ≡ sampledArray self (now (array .entry)) sample) ⌝ }
+    fn sample(self, array: &[u8], sample: Sample) -> Moved
+        ensures { λ r. ⌜ r ≡ sampled self (now (array .entry)) sample ⌝ }
     {
         let busy = self.busy;
         if busy {
@@ -66,23 +85,61 @@ impl Chip {
         self.react(array, edge, line, sample.pin).settled(sample)
     }
 
+    // The end of a cycle, or its cut: what waits is written by the choices, and the register is as it is then. An idle chip has none.
+    fn cut(self, array: &mut [u8], choices: u32) -> Register
+        ensures { λ r. ⌜ (r ≡ cutRegister choices self) × (now (array .exit) ≡ cutArray choices self (now (array .entry))) ⌝ }
+    {
+        let register = self.register;
+        let cycle = self.busy;
+        if cycle {
+            let wait = self.wait;
+            let target = wait.target;
+            wait.end(array, choices);
+            return register.taken(target, choices);
+        }
+        register
+    }
+
+    // A program-done: what waits is written whole and busy ends; nothing on an idle chip.
+    fn done(self, array: &mut [u8]) -> Moved
+        ensures { λ r. ⌜ (r ≡ quiet (programDone self)) × (now (array .exit) ≡ cutArray everyPlace self (now (array .entry))) ⌝ }
+    {
+        let register = self.cut(array, EVERY_PLACE);
+        let busy = self.busy;
+        if busy {
+            let none = Wait::none();
+            return quietly(Chip {
+                register: register,
+                busy: false,
+                wait: none,
+                ..self
+            });
+        }
+        quietly(self)
+    }
+
+    // A power-up: a cycle in progress is cut off with these choices.
+    fn powered(self, array: &mut [u8], choices: u32) -> Moved
+        ensures { λ r. ⌜ (r ≡ quiet (powerUp choices self)) × (now (array .exit) ≡ cutArray choices self (now (array .entry))) ⌝ }
+    {
+        let register = self.cut(array, choices);
+        quietly(Chip::at_power_up(
+            self.part,
+            self.select,
+            register.ppen,
+            register.bl,
+            self.spoil,
+        ))
+    }
+
     // One event: the next chip and its note. The line is the one that the next chip keeps.
     pub fn next(self, array: &mut [u8], event: Event) -> Moved
         ensures { λ r. ⌜ (r ≡ next event self (now (array .entry))) × (now (array .exit) ≡ nextArray event self (now (array .entry))) ⌝ }
     {
         match event {
-            Event::Sample(sample) => self.sample(array, sample),
-            Event::ProgramDone => quietly(Chip {
-                busy: false,
-                ..self
-            }),
-            Event::PowerUp => quietly(Chip::at_power_up(
-                self.part,
-                self.select,
-                self.register.ppen,
-                self.register.bl,
-                self.spoil,
-            )),
+            Event::Sample(sample) => self.sample(&array[..], sample),
+            Event::ProgramDone => self.done(array),
+            Event::PowerUp { choices } => self.powered(array, choices),
         }
     }
 
@@ -99,26 +156,37 @@ impl Chip {
         1
     }
 
-    // One event, refused with 1 or 2: the chip as given, line high, note 0, the array as it was.
-    pub fn event(self, array: &mut [u8], event: Event) -> Answer
-        ensures { λ r. ⌜ (r ≡ eventAnswer event self (now (array .entry))) × (now (array .exit) ≡ eventArray event self (now (array .entry))) ⌝ }
+    // What a refused event answers: the chip as given, line high, note 0.
+    fn refused(self, number: u8) -> Answer
+        ensures { λ r. ⌜ r ≡ refused number self ⌝ }
     {
-        let number = self.refusal(&array[..]);
-        if number == 0 {
-            let moved = self.next(array, event);
-            let chip = moved.chip;
-            return Answer {
-                refusal: 0,
-                chip: chip,
-                line: chip.line,
-                note: moved.note,
-            };
-        }
         Answer {
             refusal: number,
             chip: self,
             line: true,
             note: 0,
         }
+    }
+
+    // One event, refused with 1 or 2: the chip as given, line high, note 0, the array as it was.
+    pub fn event(self, array: &mut [u8], event: Event) -> Answer
+        ensures { λ r. ⌜ (r ≡ eventAnswer event self (now (array .entry))) × (now (array .exit) ≡ eventArray event self (now (array .entry))) ⌝ }
+    {
+        let number = self.refusal(&array[..]);
+        if number == 0 {
+            return self.next(array, event).answered();
+        }
+        self.refused(number)
+    }
+
+    // A power-up as one event, with no call of `next`: the loop over a trace has the only one, and is fast by it.
+    pub fn power_up(self, array: &mut [u8], choices: u32) -> Answer
+        ensures { λ r. ⌜ (r ≡ eventAnswer (PowerUp choices) self (now (array .entry))) × (now (array .exit) ≡ eventArray (PowerUp choices) self (now (array .entry))) ⌝ }
+    {
+        let wrong = self.refusal(&array[..]);
+        if wrong == 0 {
+            return self.powered(array, choices).answered();
+        }
+        self.refused(wrong)
     }
 }

@@ -1,9 +1,8 @@
-// What a stop does: nothing, a register byte written, a load stored in its sector, or the sector spoilt.
+// What a stop does: nothing, a register byte written, or a cycle begun in which a load, or the spoil byte in its place, waits for the sector.
 ghost use mathlib.Core.Path.{_≡_};
-ghost use Rattle.parts.specs.Load.{stored};
-ghost use Rattle.parts.specs.Sector.{sectorStart};
 ghost use Rattle.chip.specs.Part.{partial};
-ghost use Rattle.chip.specs.Stop.{rightly, arrayEffect, rightEffect, stopEffect, cycling, effectMoved, effectArray};
+ghost use Rattle.chip.specs.Stop.{rightly, arrayEffect, rightEffect, stopEffect, cycling, effectMoved};
+ghost use Rattle.chip.specs.declared.chip.Effect.the-variants.{Change};
 use crate::chip::Chip;
 use crate::chip::Effect;
 use crate::chip::Moved;
@@ -11,7 +10,9 @@ use parts::load::Load;
 use parts::locks::is_locked;
 use parts::phase::Phase;
 use parts::register::Register;
+use parts::register::Written;
 use parts::sector::sector_start;
+use parts::wait::Wait;
 
 // Whether a stop here is rightly placed: exactly one bit of a data byte received.
 fn rightly_placed(phase: Phase) -> bool
@@ -90,12 +91,11 @@ impl Chip {
         Effect::Nothing { note: note }
     }
 
-    // A cycle of the array: a load is stored in the counter's sector, RPEL is cleared, and the chip rests busy.
-    fn cycle(self, array: &mut [u8], load: Load, note: u8) -> Moved
-        ensures { λ r. ⌜ (r ≡ cycling self note) × (now (array .exit) ≡ stored (now (array .entry)) (sectorStart (self .counter)) load) ⌝ }
+    // A cycle of the array: a load waits for the counter's sector, RPEL is cleared, and the chip rests busy.
+    fn cycle(self, load: Load, note: u8) -> Moved
+        ensures { λ r. ⌜ r ≡ cycling self load note ⌝ }
     {
-        let start = sector_start(self.counter) as usize;
-        load.store(array, start);
+        let wait = Wait::of(self.counter / 32, load);
         let none = Load::none();
         let register = Register {
             rpel: false,
@@ -107,15 +107,51 @@ impl Chip {
                 busy: true,
                 phase: Phase::Standby,
                 load: none,
+                wait: wait,
                 ..self
             },
             note: note,
         }
     }
 
-    // A stop: standby, the load empty, and what the stop does to register and array.
-    pub(crate) fn stop(self, array: &mut [u8], pin: bool) -> Moved
-        ensures { λ r. ⌜ (r ≡ effectMoved (stopEffect self pin) self) × (now (array .exit) ≡ effectArray (stopEffect self pin) self (now (array .entry))) ⌝ }
+    // A register byte was taken or not: the counter and the mark are cleared, and what waits by it turns the chip busy.
+    fn change(self, written: Written) -> Moved
+        ensures { λ r. ⌜ r ≡ effectMoved (Change written) self ⌝ }
+    {
+        let none = Load::none();
+        let register = written.register;
+        let target = written.target;
+        let next = Chip {
+            register: register,
+            counter: 0,
+            mark: false,
+            phase: Phase::Standby,
+            load: none,
+            ..self
+        };
+        if target.waits() {
+            let wait = Wait::alone(target);
+            return Moved {
+                chip: Chip {
+                    busy: true,
+                    wait: wait,
+                    ..next
+                },
+                note: written.note,
+            };
+        }
+        Moved {
+            chip: Chip {
+                busy: false,
+                ..next
+            },
+            note: written.note,
+        }
+    }
+
+    // A stop: standby, the load empty, and what the stop does to the register and lets wait. It writes no byte of the array.
+    pub(crate) fn stop(self, pin: bool) -> Moved
+        ensures { λ r. ⌜ r ≡ effectMoved (stopEffect self pin) self ⌝ }
     {
         let effect = self.stop_effect(pin);
         match effect {
@@ -123,24 +159,9 @@ impl Chip {
                 chip: self.empty_at(Phase::Standby),
                 note: note,
             },
-            Effect::Change(written) => {
-                let none = Load::none();
-                let register = written.register;
-                Moved {
-                    chip: Chip {
-                        register: register,
-                        counter: 0,
-                        mark: false,
-                        busy: written.busy,
-                        phase: Phase::Standby,
-                        load: none,
-                        ..self
-                    },
-                    note: written.note,
-                }
-            }
-            Effect::Store => self.cycle(array, self.load, 1),
-            Effect::Spoil => self.cycle(array, Load::full(self.spoil), 5),
+            Effect::Change(written) => self.change(written),
+            Effect::Store => self.cycle(self.load, 1),
+            Effect::Spoil => self.cycle(Load::full(self.spoil), 5),
         }
     }
 }

@@ -12,7 +12,8 @@ pub struct Sample {
 pub enum Event {
     Sample(Sample),
     ProgramDone,
-    PowerUp,
+    // with a choice for each place of a cycle that it cuts off, bit k for place k
+    PowerUp { choices: u32 },
 }
 
 // What a sample is, judged against the last levels.

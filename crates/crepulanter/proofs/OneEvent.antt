@@ -3,18 +3,20 @@ use Prim.Native.Nat.{ℕ}
 use mathlib.Core.Bool.{Bool, true, false, cond, and-true}
 use mathlib.Core.Path.{_≡_, refl, ap, _∙_}
 use mathlib.Core.List.{List, [], _∷_}
-use lib.Dec.{leb, eqb}
+use lib.Dec.{eqb}
 use lib.ListN.{getD}
 use Rattle.parts.specs.Rows.{every, stepped}
 use Rattle.chip.specs.Event.{refusal}
 use Rattle.chip.specs.Run.{step, noteOf}
 use Rattle.chip.specs.declared.chip.Chip.{Chip}
+use Rattle.trace.specs.Bytes.{isEvent}
 use Rattle.trace.specs.Trace.{after, answersOf, runRefusal, unless, ranOf, runArray, runAnswers}
 use Rattle.map.specs.Keeping.{keptOver, traceRefusal, traceRan, traceArray, traceMap, traceAnswers}
 use Rattle.map.specs.Sectors.{withMap}
 use Rattle.crepulanter.specs.Calls.{unfit, checked, eventRefusal, runNumber, EventSays, RunSays}
 use Rattle.crepulanter.specs.Maps.{MapEventSays, MapRunSays}
 use Rattle.crepulanter.specs.State.{bytesFit, chipOf, bytesOf}
+use Rattle.crepulanter.proofs.Answers.{unless-inner}
 use Rattle.crepulanter.proofs.Refusals.{unfit-taken, unfit-map-taken}
 
 -- the first byte of what is left
@@ -23,15 +25,6 @@ unfolding unless
 first-of number kept run = go (eqb number 0)
   where
     go : (taken : Bool) → getD (cond taken run kept) 0 0 ≡ cond taken (getD run 0 0) (getD kept 0 0)
-    go true = refl
-    go false = refl
-
--- the chip that is packed is the last one
-packed : (number : ℕ) (b : List ℕ) (c last : Chip) → unless number b (bytesOf (unless number c last)) ≡ unless number b (bytesOf last)
-unfolding unless
-packed number b c last = go (eqb number 0)
-  where
-    go : (taken : Bool) → cond taken (bytesOf (cond taken last c)) b ≡ cond taken (bytesOf last) b
     go true = refl
     go false = refl
 
@@ -46,7 +39,7 @@ module _ (b xs : List ℕ) (event : ℕ) where
   -- it is one
   one-refusal : of-trace ≡ of-event
   unfolding runRefusal every
-  one-refusal = rw (and-true (leb event 9))
+  one-refusal = rw (and-true (isEvent event))
 
   -- by the bytes, and by what a call makes of it, which refuses bytes that no chip has
   module _ (made : ℕ → ℕ) (bad : eqb (made (unfit xs)) 0 ≡ false) where
@@ -75,7 +68,7 @@ module _ (b xs : List ℕ) (event : ℕ) where
         number fit = made (cond fit of-event (unfit xs))
 
         go : (fit : Bool) → unless (number fit) b (bytesOf (unless (made of-event) (chipOf b) last)) ≡ unless (number fit) b (bytesOf last)
-        go true = packed (made of-event) b (chipOf b) last
+        go true = unless-inner bytesOf (made of-event) b (chipOf b) last
         go false = rw bad
 
 -- so what a call says of such a trace, it says of the event

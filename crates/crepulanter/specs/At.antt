@@ -12,6 +12,11 @@
 -- | `places` | a flag for each place of the sector |
 -- | `load` | a byte for each place of the sector |
 -- | `spoil` | the spoil byte |
+-- | `wait` | the kind of what waits |
+-- | `waitHigh`, `waitLow` | the waiting sector |
+-- | `waitPpen`, `waitBl` | the waiting PPEN, a flag, and the waiting BL |
+-- | `waitPlaces` | a flag for each place of the waiting sector |
+-- | `waitBytes` | a byte for each place of the waiting sector |
 -- | `size` | how many bytes a chip has |
 use Prim.Native.Nat.{ℕ}
 
@@ -75,5 +80,26 @@ load = 49
 abbrev pub spoil : ℕ
 spoil = 81
 
+abbrev pub wait : ℕ
+wait = 82
+
+abbrev pub waitHigh : ℕ
+waitHigh = 83
+
+abbrev pub waitLow : ℕ
+waitLow = 84
+
+abbrev pub waitPpen : ℕ
+waitPpen = 85
+
+abbrev pub waitBl : ℕ
+waitBl = 86
+
+abbrev pub waitPlaces : ℕ
+waitPlaces = 87
+
+abbrev pub waitBytes : ℕ
+waitBytes = 119
+
 abbrev pub size : ℕ
-size = 82
+size = 151

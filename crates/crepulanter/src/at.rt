@@ -38,5 +38,19 @@ pub(crate) const PLACES: usize = 17;
 pub(crate) const LOAD: usize = 49;
 
 pub(crate) const SPOIL: usize = 81;
+// The kind of what waits and what it carries: the sector's number, or PPEN and BL.
+pub(crate) const WAIT: usize = 82;
+
+pub(crate) const WAIT_HIGH: usize = 83;
+
+pub(crate) const WAIT_LOW: usize = 84;
+
+pub(crate) const WAIT_PPEN: usize = 85;
+
+pub(crate) const WAIT_BL: usize = 86;
+// A flag, and then a byte, for each of the 32 places of the waiting sector.
+pub(crate) const WAIT_PLACES: usize = 87;
+
+pub(crate) const WAIT_BYTES: usize = 119;
 // How many bytes a chip has.
-pub(crate) const SIZE: usize = 82;
+pub(crate) const SIZE: usize = 151;

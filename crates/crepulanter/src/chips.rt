@@ -1,6 +1,6 @@
-// The four functions of a chip.
+// The five functions of a chip.
 ghost use mathlib.Core.Path.{_≡_};
-ghost use Rattle.crepulanter.specs.Calls.{unfit, NewSays, EventSays, RunSays, RecoverSays};
+ghost use Rattle.crepulanter.specs.Calls.{unfit, NewSays, EventSays, RunSays, PowerUpSays, RecoverSays};
 use crate::at;
 use crate::packing::pack;
 use crate::unpacking::bytes_fit;
@@ -69,6 +69,31 @@ pub extern "C" fn crep_event(
     let refused = crep_run(state, array, &trace, &mut told);
     *answer = told[0];
     refused
+}
+
+// A power-up with any 32 choices. Refused with 1 or 2 it changes nothing. It answers that the line is high, with note 0, in every case.
+#[no_mangle]
+pub extern "C" fn crep_power_up(
+    state: &mut [u8; at::SIZE],
+    array: &mut [u8],
+    choices: u32,
+    answer: &mut u8,
+) -> u8
+    ensures { λ r. ⌜ PowerUpSays (now (state .entry)) (now (array .entry)) choices r (now (state .exit)) (now (array .exit)) (now (answer .exit)) ⌝ }
+{
+    *answer = 1;
+    if bytes_fit(state) {
+        let chip = unpack(state);
+        let cut = chip.power_up(array, choices);
+        let refused = cut.refusal;
+        if refused == 0 {
+            let up = cut.chip;
+            *state = pack(up);
+            return 0;
+        }
+        return refused;
+    }
+    unfit_number(&array[..])
 }
 
 // Frees the bus. Refused with 1 or 2 it changes nothing and reports 0 pulses.

@@ -10,11 +10,13 @@ mod unpacking;
 
 pub use chips::crep_event;
 pub use chips::crep_new;
+pub use chips::crep_power_up;
 pub use chips::crep_recover;
 pub use chips::crep_run;
 pub use maps::crep_map_build;
 pub use maps::crep_map_event;
 pub use maps::crep_map_first;
+pub use maps::crep_map_power_up;
 pub use maps::crep_map_run;
 pub use records::crep_name;
 pub use records::crep_record_limits;

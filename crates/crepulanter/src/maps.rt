@@ -1,8 +1,8 @@
-// The four functions with a map.
+// The five functions with a map.
 ghost use mathlib.Core.Path.{_≡_};
 ghost use Rattle.map.specs.Sectors.{withMap, buildRefusal, builtOf};
 ghost use Rattle.crepulanter.specs.Calls.{unfit};
-ghost use Rattle.crepulanter.specs.Maps.{sectorNumber, foundNumber, FirstSays, MapEventSays, MapRunSays};
+ghost use Rattle.crepulanter.specs.Maps.{sectorNumber, foundNumber, FirstSays, MapEventSays, MapRunSays, MapPowerUpSays};
 use crate::at;
 use crate::packing::pack;
 use crate::unpacking::bytes_fit;
@@ -11,6 +11,7 @@ use chip::chip::Chip;
 use map::build;
 use map::finding::Found;
 use map::first_free;
+use map::power_up;
 use map::run;
 
 // How many bytes a map has.
@@ -114,4 +115,31 @@ pub extern "C" fn crep_map_event(
     let refused = crep_map_run(state, array, map, &trace, &mut told);
     *answer = told[0];
     refused
+}
+
+// A power-up with any 32 choices, with the map kept. Refused with 1, 18 or 2 it changes nothing. It answers that the line is high, with note 0,
+// in every case.
+#[no_mangle]
+pub extern "C" fn crep_map_power_up(
+    state: &mut [u8; at::SIZE],
+    array: &mut [u8],
+    map: &mut [u8],
+    choices: u32,
+    answer: &mut u8,
+) -> u8
+    ensures { λ r. ⌜ MapPowerUpSays (now (state .entry)) (now (array .entry)) (now (map .entry)) choices r (now (state .exit)) (now (array .exit)) (now (map .exit)) (now (answer .exit)) ⌝ }
+{
+    *answer = 1;
+    if bytes_fit(state) {
+        let chip = unpack(state);
+        let cut = power_up(chip, array, map, choices);
+        let refused = cut.refusal;
+        if refused == 0 {
+            let up = cut.chip;
+            *state = pack(up);
+            return 0;
+        }
+        return refused;
+    }
+    unfit_with_map(&array[..], &map[..])
 }

@@ -3,10 +3,13 @@ ghost use mathlib.Core.Path.{_≡_};
 ghost use mathlib.Core.List.{_++_, map};
 ghost use Prim.Native.Nat.{_+_, _≤_};
 ghost use lib.ListN.{length, take, drop};
-ghost use Rattle.crepulanter.specs.State.{flagByte, phaseBytes, headBytes, bytesOf};
+ghost use Rattle.crepulanter.specs.State.{flagByte, phaseBytes, targetBytes, waitBytes, headBytes, bytesOf};
+ghost use Rattle.crepulanter.specs.At as at;
 use crate::at;
 use chip::chip::Chip;
 use parts::phase::Phase;
+use parts::wait::Target;
+use parts::wait::Wait;
 
 // 1 for a flag that is set, else 0.
 pub(crate) fn flag_byte(on: bool) -> u8
@@ -32,6 +35,17 @@ fn phase_bytes(phase: Phase) -> [u8; 4]
         Phase::Sending { bit, byte } => [9, bit, byte, 0],
         Phase::Waiting => [10, 0, 0, 0],
         Phase::Next => [11, 0, 0, 0],
+    }
+}
+
+// The five bytes of what waits: its kind, the two of its sector's number, its PPEN and BL, where 0 stands for what it does not carry.
+fn target_bytes(target: Target) -> [u8; 5]
+    ensures { λ r. ⌜ r ≡ targetBytes target ⌝ }
+{
+    match target {
+        Target::None => [0, 0, 0, 0, 0],
+        Target::Sector { number } => [1, (number / 256) as u8, (number % 256) as u8, 0, 0],
+        Target::Locks { ppen, bl } => [2, 0, 0, flag_byte(ppen), bl],
     }
 }
 
@@ -89,6 +103,21 @@ fn copy_at(state: &mut [u8], offset: usize, row: &[u8])
     }
 }
 
+// Copies what waits into the bytes of a chip, which end with it.
+fn copy_wait(state: &mut [u8], wait: Wait)
+    requires { ⌜ length (now state) ≡ at.size ⌝ }
+    ensures { λ _. ⌜ now (state .exit) ≡ take at.wait (now (state .entry)) ++ waitBytes wait ⌝ }
+{
+    let target = wait.target;
+    let places = wait.places;
+    let bytes = wait.bytes;
+    let kind = target_bytes(target);
+    let taking = flag_bytes(places);
+    copy_at(state, at::WAIT, &kind);
+    copy_at(state, at::WAIT_PLACES, &taking);
+    copy_at(state, at::WAIT_BYTES, &bytes);
+}
+
 // The bytes of a chip.
 pub(crate) fn pack(chip: Chip) -> [u8; at::SIZE]
     ensures { λ r. ⌜ r ≡ bytesOf chip ⌝ }
@@ -99,10 +128,12 @@ pub(crate) fn pack(chip: Chip) -> [u8; at::SIZE]
     let head = head_bytes(chip);
     let loaded = flag_bytes(places);
     let spoil = [chip.spoil];
+    let wait = chip.wait;
     let mut state = [0; at::SIZE];
     copy_at(&mut state, at::PART, &head);
     copy_at(&mut state, at::PLACES, &loaded);
     copy_at(&mut state, at::LOAD, &bytes);
     copy_at(&mut state, at::SPOIL, &spoil);
+    copy_wait(&mut state, wait);
     state
 }

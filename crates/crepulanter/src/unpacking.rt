@@ -2,13 +2,16 @@
 ghost use mathlib.Core.Path.{_≡_};
 ghost use mathlib.Core.List.{map};
 ghost use Prim.Native.Nat.{_+_, _*_, _≤_};
-ghost use Rattle.crepulanter.specs.State.{row, flagOf, phaseOf, allFlags, bytesFit, chipOf};
-ghost use Rattle.crepulanter.specs.At.{size};
+ghost use lib.ListN.{getD};
+ghost use Rattle.crepulanter.specs.State.{row, flagOf, phaseOf, targetOf, waitOf, allFlags, waitFits, bytesFit, chipOf};
+ghost use Rattle.crepulanter.specs.At.{size, wait, waitPpen, waitPlaces};
 use crate::at;
 use chip::chip::Chip;
 use parts::load::Load;
 use parts::phase::Phase;
 use parts::register::Register;
+use parts::wait::Target;
+use parts::wait::Wait;
 
 // The phase of a number from 0 to 11, with those of the three bytes beside it that it carries.
 fn phase_of(number: u8, bits: u8, byte: u8, high: u8) -> Phase
@@ -34,11 +37,27 @@ fn phase_of(number: u8, bits: u8, byte: u8, high: u8) -> Phase
     }
 }
 
-// The address counter of its two bytes.
-fn counter_of(high: u8, low: u8) -> u16
+// The number of its two bytes: the address counter, or the waiting sector.
+fn number_of(high: u8, low: u8) -> u16
     ensures { λ r. ⌜ r ≡ high * 256 + low ⌝ }
 {
     high as u16 * 256 + low as u16
+}
+
+// What waits by its kind from 0 to 2, with those of the four bytes beside it that it carries.
+fn target_of(kind: u8, high: u8, low: u8, ppen: u8, bl: u8) -> Target
+    ensures { λ r. ⌜ r ≡ targetOf kind high low ppen bl ⌝ }
+{
+    match kind {
+        0 => Target::None,
+        1 => Target::Sector {
+            number: number_of(high, low),
+        },
+        _ => Target::Locks {
+            ppen: ppen == 1,
+            bl,
+        },
+    }
 }
 
 // The row of a byte for each place that stands at an offset.
@@ -68,6 +87,32 @@ fn flags_of(bytes: [u8; Chip::SECTOR]) -> [bool; Chip::SECTOR]
     flags
 }
 
+// What waits in the chip: a sector with its places and bytes, any other with none.
+fn wait_of(state: &[u8; at::SIZE]) -> Wait
+    ensures { λ r. ⌜ r ≡ waitOf (now (state .entry)) ⌝ }
+{
+    let target = target_of(
+        state[at::WAIT],
+        state[at::WAIT_HIGH],
+        state[at::WAIT_LOW],
+        state[at::WAIT_PPEN],
+        state[at::WAIT_BL],
+    );
+    match target {
+        Target::None => Wait::alone(target),
+        Target::Sector { number: _ } => {
+            let places = flags_of(row_at(state, at::WAIT_PLACES));
+            let bytes = row_at(state, at::WAIT_BYTES);
+            Wait {
+                target: target,
+                places: places,
+                bytes: bytes,
+            }
+        }
+        Target::Locks { ppen: _, bl: _ } => Wait::alone(target),
+    }
+}
+
 // The chip that the bytes stand for.
 pub(crate) fn unpack(state: &[u8; at::SIZE]) -> Chip
     ensures { λ r. ⌜ r ≡ chipOf (now (state .entry)) ⌝ }
@@ -80,7 +125,8 @@ pub(crate) fn unpack(state: &[u8; at::SIZE]) -> Chip
     );
     let places = flags_of(row_at(state, at::PLACES));
     let bytes = row_at(state, at::LOAD);
-    let counter = counter_of(state[at::COUNTER_HIGH], state[at::COUNTER_LOW]);
+    let wait = wait_of(state);
+    let counter = number_of(state[at::COUNTER_HIGH], state[at::COUNTER_LOW]);
     Chip {
         part: state[at::PART],
         select: state[at::SELECT],
@@ -102,6 +148,7 @@ pub(crate) fn unpack(state: &[u8; at::SIZE]) -> Chip
             count: state[at::COUNT],
         },
         spoil: state[at::SPOIL],
+        wait: wait,
     }
 }
 
@@ -118,7 +165,23 @@ fn all_flags(bytes: &[u8]) -> bool
     fit
 }
 
-// Whether the phase is one of the twelve and each flag is 0 or 1.
+// Whether the kind of what waits is one of the three and each flag that it carries is 0 or 1.
+fn wait_fits(state: &[u8; at::SIZE]) -> bool
+    ensures { λ r. ⌜ r ≡ waitFits (getD (now (state .entry)) wait 0) (getD (now (state .entry)) waitPpen 0) (row 32 waitPlaces (now (state .entry))) ⌝ }
+{
+    let kind = state[at::WAIT];
+    match kind {
+        0 => true,
+        1 => {
+            let places = row_at(state, at::WAIT_PLACES);
+            all_flags(&places)
+        }
+        2 => state[at::WAIT_PPEN] <= 1,
+        _ => false,
+    }
+}
+
+// Whether the phase is one of the twelve, each flag is 0 or 1 and what waits fits.
 pub(crate) fn bytes_fit(state: &[u8; at::SIZE]) -> bool
     ensures { λ r. ⌜ r ≡ bytesFit (now (state .entry)) ⌝ }
 {
@@ -134,5 +197,6 @@ pub(crate) fn bytes_fit(state: &[u8; at::SIZE]) -> bool
     let places = row_at(state, at::PLACES);
     let head = all_flags(&flags);
     let load = all_flags(&places);
-    (state[at::PHASE] <= 11) & (head & load)
+    let wait = wait_fits(state);
+    (state[at::PHASE] <= 11) & (head & (load & wait))
 }

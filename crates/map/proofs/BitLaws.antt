@@ -8,18 +8,13 @@ use lib.Dec.{eqb, leb, ltb}
 use lib.ListN.{getD}
 use borrow.Author.Tests.{eqb-true, leb-true, ltb-true}
 use Rattle.parts.specs.Phase.{weight, bitOf}
+use Rattle.parts.proofs.CondLaws.{beq-true}
 use Rattle.parts.proofs.RowLaws.{below, each}
 use Rattle.map.specs.Sectors.{withBit}
 
 -- what passes for each byte and each of its bits, passes for this one
 at-bit : (test : ℕ → ℕ → Bool) → below 256 (λ byte. below 8 (test byte)) ≡ true → (byte bit : ℕ) → byte < 256 → bit < 8 → test byte bit ≡ true
 at-bit test t byte bit h k = each 8 (test byte) (each 256 (λ x. below 8 (test x)) t byte h) bit k
-
-beq-true : (a b : Bool) → Bool·beq a b ≡ true → a ≡ b
-beq-true true true e = refl
-beq-true true false e = sym e
-beq-true false true e = e
-beq-true false false e = refl
 
 hit : Bool → ℕ → ℕ → ℕ → Bool
 hit on byte bit j = Bool·beq (bitOf (withBit byte bit on) j) (cond (eqb j bit) on (bitOf byte j))

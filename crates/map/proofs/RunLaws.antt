@@ -4,21 +4,22 @@ use mathlib.Core.Bool.{Bool, true}
 use mathlib.Core.List.{List, [], _∷_, _++_, map, map-append}
 use mathlib.Core.Path.{_≡_, refl, sym, ap, subst, _∙_}
 use native.Mathlib.Omega.{arith}
-use lib.Dec.{leb}
 use lib.ListN.{length, take, drop, drop-of-length-le, length-drop}
 use lib.Seq.{length-take-le}
 use Rattle.parts.specs.Rows.{every, stepped}
-use Rattle.parts.proofs.CondLaws.{cond-by, and-left, and-right}
+use Rattle.parts.specs.declared.wait.Target.{Target}
+use Rattle.parts.specs.declared.wait.Target.the-variants.{None, Sector, Locks}
+use Rattle.parts.proofs.CondLaws.{and-left, and-right}
 use Rattle.chip.specs.Event.{refusal}
-use Rattle.chip.specs.Run.{World, world, step, noteOf, ran}
-use Rattle.chip.specs.View.{samples, writes}
+use Rattle.chip.specs.Run.{World, world, step, ran}
+use Rattle.chip.specs.View.{samples}
 use Rattle.chip.specs.declared.chip.Chip.{Chip}
 use Rattle.chip.specs.declared.wire.Event.{Event}
 use Rattle.chip.proofs.RunLaws.{ran-taken}
-use Rattle.trace.specs.Bytes.{eventOf, allEvents}
+use Rattle.trace.specs.Bytes.{eventOf, isEvent, allEvents}
 use Rattle.trace.specs.Trace.{after, answersOf}
 use Rattle.trace.proofs.RunLaws.{Going, going-begins, going-on, going-ends, part-and-rest}
-use Rattle.map.specs.Keeping.{kept, keptOver, Taken, Piece}
+use Rattle.map.specs.Keeping.{ended, enteredFor, kept, keptOver, Taken, Piece}
 use Rattle.map.proofs.MapLaws.{entered-length}
 
 -- a map over two rows of events, one after the other
@@ -27,10 +28,17 @@ unfolding keptOver stepped
 kept-on [] second w m = refl
 kept-on (e ∷ first) second w m = kept-on first second (step e w) (kept e w m)
 
--- a map stays as long as it is: after an event
+-- a map stays as long as it is: where a sector is entered or none
+entered-for-length : (target : Target) (xs m : List ℕ) → length (enteredFor target xs m) ≡ length m
+unfolding enteredFor
+entered-for-length None xs m = refl
+entered-for-length (Sector k) xs m = entered-length k xs m
+entered-for-length (Locks ppen bl) xs m = refl
+
+-- after an event
 pub kept-event-length : (e : Event) (w : World) (m : List ℕ) → length (kept e w m) ≡ length m
 unfolding kept
-kept-event-length e w m = cond-by (λ l. length l ≡ length m) (writes (noteOf e w)) _ m (λ b. entered-length _ _ m) (λ b. refl)
+kept-event-length e w m = entered-for-length (ended e (w .chip)) (step e w .array) m
 
 -- and after a row of them
 pub kept-length : (es : List Event) (w : World) (m : List ℕ) → length (keptOver es w m) ≡ length m
@@ -91,8 +99,9 @@ module _ (bytes old : List ℕ) (w : World) (m₀ : List ℕ) (i : ℕ) (c : Chi
                 map = r .sized;
                 few = omega (arith, r .few);
                 room = omega arith;
-                events = every-take (λ byte. leb byte 9) (end - i) (drop i bytes) (every-drop (λ byte. leb byte 9) i bytes (r .events));
+                events = every-take isEvent (end - i) (drop i bytes) (every-drop isEvent i bytes (r .events));
               };
+          some = omega arith;
           exact = lent ∙ sym mine;
           tail = tail;
         }

@@ -2,45 +2,64 @@
 --
 -- | Name | Meaning |
 -- |---|---|
+-- | `ended e c` | what waits in the cycle that this event ends; nothing where it ends none |
+-- | `enteredFor target xs m` | the map in which a waiting sector's bit is set from the array |
 -- | `kept e w m` | the map after one event |
 -- | `keptOver es w m` | after a row of events |
--- | `wroteIn k es w` | one of a row of events began a cycle in sector k |
+-- | `isSector k target` | sector k waits |
+-- | `wroteIn k es w` | one of a row of events ended a cycle for sector k |
 -- | `answerRefusal`, `answerOf`, `answerArray`, `answerMap` | one event: its refusal, its answer, the array and the map at exit |
 -- | `traceRefusal`, `traceRan`, `traceArray`, `traceAnswers`, `traceMap` | a trace: its refusal, the refusal with the chip, and the three buffers at exit |
--- | `noneWrote answers` | no answer byte says that a cycle of the array began |
 -- | `Taken` | what a trace that is not refused is lent |
 -- | `Piece` | the same for a piece of it, and each of its events but the first is a sample |
-use Prim.Native.Nat.{ℕ, _≤_}
+use Prim.Native.Nat.{ℕ, _≤_, _<_}
 use mathlib.Core.Bool.{Bool, true, false, not, cond, _&&_, _||_}
 use mathlib.Core.Path.{_≡_}
 use mathlib.Core.List.{List, [], _∷_, _++_, map}
 use lib.Dec.{eqb}
 use lib.ListN.{length, drop}
-use Rattle.parts.specs.Rows.{every}
+use Rattle.parts.specs.declared.wait.Target.{Target}
+use Rattle.parts.specs.declared.wait.Target.the-variants.{None, Sector, Locks}
 use Rattle.chip.specs.Event.{next, nextArray, refusal, answered, refused}
-use Rattle.chip.specs.Run.{World, world, step, noteOf}
-use Rattle.chip.specs.View.{samples, writes, sectorIn}
+use Rattle.chip.specs.Run.{World, world, step}
+use Rattle.chip.specs.View.{isSample, samples}
 use Rattle.chip.specs.declared.chip.Chip.{Chip}
 use Rattle.chip.specs.declared.event.Answer.{Answer}
 use Rattle.chip.specs.declared.wire.Event.{Event}
-use Rattle.trace.specs.Bytes.{eventOf, allEvents, answerNote}
+use Rattle.trace.specs.Bytes.{eventOf, allEvents}
 use Rattle.trace.specs.Trace.{after, answersOf, runRefusal, unless}
 use Rattle.trace.specs.declared.Ran.{Ran}
 use Rattle.map.specs.Sectors.{entered, withMap}
 
--- V3: where the event began a cycle of the array, the sector that it wrote is entered, from the array as it is then; no other bit changes
+-- U3, U7: a program-done and a power-up end the cycle of a busy chip
+unfoldable pub ended : Event → Chip → Target
+ended e c = cond (c .busy && not (isSample e)) (c .wait .target) None
+
+-- V3: its bit alone
+unfoldable pub enteredFor : Target → List ℕ → List ℕ → List ℕ
+enteredFor None xs m = m
+enteredFor (Sector k) xs m = entered k xs m
+enteredFor (Locks ppen bl) xs m = m
+
+-- V3: where the event ended a cycle of the array, its sector is entered, from the array as it is then, whatever was chosen; no other bit changes
 unfoldable pub kept : Event → World → List ℕ → List ℕ
-kept e w m = cond (writes (noteOf e w)) (entered (sectorIn (w .chip)) (step e w .array) m) m
+kept e w m = enteredFor (ended e (w .chip)) (step e w .array) m
 
 -- V3: after each event
 unfoldable pub keptOver : List Event → World → List ℕ → List ℕ
 keptOver [] w m = m
 keptOver (e ∷ es) w m = keptOver es (step e w) (kept e w m)
 
--- N1, N5: a store there, or a spoil
+-- one of 512
+unfoldable pub isSector : ℕ → Target → Bool
+isSector k None = false
+isSector k (Sector j) = eqb j k
+isSector k (Locks ppen bl) = false
+
+-- a store there, or a spoil, has ended or was cut off
 unfoldable pub wroteIn : ℕ → List Event → World → Bool
 wroteIn k [] w = false
-wroteIn k (e ∷ es) w = writes (noteOf e w) && eqb (sectorIn (w .chip)) k || wroteIn k es (step e w)
+wroteIn k (e ∷ es) w = isSector k (ended e (w .chip)) || wroteIn k es (step e w)
 
 -- O13: one event checks 1, 18, 2
 unfoldable pub answerRefusal : Chip → List ℕ → List ℕ → ℕ
@@ -82,10 +101,6 @@ traceAnswers c xs m bytes old =
 unfoldable pub traceMap : Chip → List ℕ → List ℕ → List ℕ → List ℕ → List ℕ
 traceMap c xs m bytes old = unless (traceRefusal c xs m bytes (length old)) m (keptOver (map eventOf bytes) (world c xs) m)
 
--- none has note 1 or 5
-abbrev pub noneWrote : List ℕ → Bool
-noneWrote answers = every (λ answer. not (writes (answerNote answer))) answers
-
 -- what O14's refusals leave
 pub record Taken (c : Chip) (xs m bytes old : List ℕ) : Type 0 where
   pub chip : refusal c xs ≡ 0
@@ -97,5 +112,6 @@ pub record Taken (c : Chip) (xs m bytes old : List ℕ) : Type 0 where
 -- from one program-done or power-up to the next
 pub record Piece (c : Chip) (xs m bytes old : List ℕ) : Type 0 where
   pub taken : Taken c xs m bytes old
+  pub some : 0 < length bytes
   pub exact : length old ≡ length bytes
   pub tail : samples (map eventOf (drop 1 bytes)) ≡ true

@@ -1,39 +1,61 @@
 // An event and a trace that keep the map beside the array.
 ghost use mathlib.Core.Path.{_≡_};
-ghost use mathlib.Core.Bool.{true, cond};
+ghost use mathlib.Core.Bool.{true};
 ghost use mathlib.Core.List.{_++_, map as mapped};
 ghost use Prim.Native.Nat.{_-_, _≤_, _<_};
 ghost use lib.ListN.{length, drop, take};
+ghost use Rattle.parts.specs.Wait.{targetFits};
 ghost use Rattle.chip.specs.Run.{world};
-ghost use Rattle.chip.specs.View.{samples, writes};
+ghost use Rattle.chip.specs.View.{isSample, samples};
+ghost use Rattle.chip.specs.declared.wire.Event.the-variants.{PowerUp};
 ghost use Rattle.trace.specs.Bytes.{eventOf};
 ghost use Rattle.trace.specs.Trace.{after, answersOf};
-ghost use Rattle.map.specs.Keeping.{keptOver, answerOf, answerArray, answerMap, traceRan, traceArray, traceAnswers, traceMap, noneWrote, Taken, Piece};
-ghost use Rattle.map.specs.Sectors.{entered};
+ghost use Rattle.map.specs.Keeping.{ended, enteredFor, keptOver, answerOf, answerArray, answerMap, traceRan, traceArray, traceAnswers, traceMap, Taken, Piece};
 use crate::sectors::enter;
 use crate::sectors::with_map;
 use chip::chip::Chip;
 use chip::event::Answer;
 use chip::wire::Event;
+use parts::wait::Target;
 use trace::Ran;
+use trace::event_of;
 use trace::run_refusal;
 
-// Whether a note says that a cycle of the array has begun.
-fn is_write(note: u8) -> bool
-    ensures { λ r. ⌜ r ≡ writes note ⌝ }
+// Whether an event is a sample.
+fn is_sample(event: Event) -> bool
+    ensures { λ r. ⌜ r ≡ isSample event ⌝ }
 {
-    (note == 1) | (note == 5)
+    match event {
+        Event::Sample(_) => true,
+        Event::ProgramDone => false,
+        Event::PowerUp { choices: _ } => false,
+    }
 }
 
-// Enters the sector that an event with this note has written.
-fn follow(map: &mut [u8], array: &[u8], sector: usize, note: u8)
-    requires { ⌜ (sector < 512) × (length (now map) ≡ 64) × (length (now array) ≡ 16384) ⌝ }
-    ensures { λ _. ⌜ now (map .exit) ≡ cond (writes note) (entered sector (now (array .entry)) (now (map .entry))) (now (map .entry)) ⌝ }
+// What waits in the cycle that this event ends; nothing where it ends none.
+fn ended_by(chip: Chip, event: Event) -> Target
+    ensures { λ r. ⌜ r ≡ ended event chip ⌝ }
 {
-    if !is_write(note) {
-        return;
+    let wait = chip.wait;
+    let ends = chip.busy & !is_sample(event);
+    if ends {
+        return wait.target;
     }
-    enter(map, array, sector);
+    Target::None
+}
+
+// Enters the sector that waited, from the array as the end of its cycle left it.
+fn follow(map: &mut [u8], array: &[u8], target: Target)
+    requires { ⌜ (targetFits target ≡ true) × (length (now map) ≡ 64) × (length (now array) ≡ 16384) ⌝ }
+    ensures { λ _. ⌜ now (map .exit) ≡ enteredFor target (now (array .entry)) (now (map .entry)) ⌝ }
+{
+    match target {
+        Target::None => (),
+        Target::Sector { number } => {
+            enter(map, array, number as usize);
+        }
+        Target::Locks { ppen: _, bl: _ } => (),
+    }
 }
 
 // One event, with the map kept. Refused with 1, 18 or 2: the chip as given, line high, note 0, array and map as they were.
@@ -45,11 +67,11 @@ pub fn event(chip: Chip, array: &mut [u8], map: &mut [u8], event: Event) -> Answ
     let plain = chip.refusal(&array[..]);
     let number = with_map(plain, &map[..]);
     if number == 0 {
-        let sector = chip.counter as usize / Chip::SECTOR;
+        let target = ended_by(chip, event);
         let moved = chip.next(array, event);
         let note = moved.note;
         let next = moved.chip;
-        follow(map, &array[..], sector, note);
+        follow(map, &array[..], target);
         return Answer {
             refusal: 0,
             chip: next,
@@ -65,18 +87,26 @@ pub fn event(chip: Chip, array: &mut [u8], map: &mut [u8], event: Event) -> Answ
     }
 }
 
-// Whether no answer byte has note 1 or 5.
-fn none_wrote(answers: &[u8]) -> bool
-    ensures { λ r. ⌜ r ≡ noneWrote (now (answers .entry)) ⌝ }
+// A power-up with any choices, with the map kept. Refused with 1, 18 or 2 as an event is.
+pub fn power_up(chip: Chip, array: &mut [u8], map: &mut [u8], choices: u32) -> Answer
+    ensures { λ r. ⌜ r ≡ answerOf (PowerUp choices) chip (now (array .entry)) (now (map .entry)) ⌝ }
+    ensures { λ r. ⌜ now (array .exit) ≡ answerArray (PowerUp choices) chip (now (array .entry)) (now (map .entry)) ⌝ }
+    ensures { λ r. ⌜ now (map .exit) ≡ answerMap (PowerUp choices) chip (now (array .entry)) (now (map .entry)) ⌝ }
 {
-    let mut i: usize = 0;
-    while i < answers.len() {
-        if is_write(answers[i] / 2 % 8) {
-            return false;
-        }
-        i = i + 1;
+    let plain = chip.refusal(&array[..]);
+    let number = with_map(plain, &map[..]);
+    if number == 0 {
+        let target = ended_by(chip, Event::PowerUp { choices: choices });
+        let answer = chip.power_up(array, choices);
+        follow(map, &array[..], target);
+        return answer;
     }
-    true
+    Answer {
+        refusal: number,
+        chip: chip,
+        line: true,
+        note: 0,
+    }
 }
 
 // Where the piece that begins at a place of a trace ends: before the next program-done or power-up.
@@ -94,7 +124,7 @@ fn piece_end(trace: &[u8], from: usize) -> usize
     i
 }
 
-// Runs one piece: at most one cycle begins in it, and then the chip is busy at its end, with the counter where that cycle wrote.
+// Runs one piece. Only its first event can end a cycle, and no other writes a byte of the array.
 fn run_piece(chip: Chip, array: &mut [u8], map: &mut [u8], piece: &[u8], answers: &mut [u8]) -> Chip
     requires { ⌜ Piece chip (now array) (now map) (now piece) (now answers) ⌝ }
     ensures { λ r. ⌜ r ≡ after (now (piece .entry)) (world chip (now (array .entry))) .chip ⌝ }
@@ -102,16 +132,10 @@ fn run_piece(chip: Chip, array: &mut [u8], map: &mut [u8], piece: &[u8], answers
     ensures { λ r. ⌜ now (map .exit) ≡ keptOver (mapped eventOf (now (piece .entry))) (world chip (now (array .entry))) (now (map .entry)) ⌝ }
     ensures { λ r. ⌜ now (answers .exit) ≡ answersOf (now (piece .entry)) (world chip (now (array .entry))) ⌝ }
 {
+    let target = ended_by(chip, event_of(piece[0]));
     let ran = trace::run(chip, array, piece, answers);
-    let last = ran.chip;
-    if !last.busy {
-        return last;
-    }
-    if none_wrote(&answers[..]) {
-        return last;
-    }
-    enter(map, &array[..], last.counter as usize / Chip::SECTOR);
-    last
+    follow(map, &array[..], target);
+    ran.chip
 }
 
 // Runs a trace piece by piece, by the one loop over events that there is.

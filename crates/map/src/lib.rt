@@ -6,5 +6,6 @@ mod sectors;
 
 pub use finding::first_free;
 pub use keeping::event;
+pub use keeping::power_up;
 pub use keeping::run;
 pub use sectors::build;

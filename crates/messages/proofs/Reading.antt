@@ -11,7 +11,7 @@ use Rattle.parts.specs.declared.phase.Phase.{Phase}
 use Rattle.parts.specs.declared.phase.Phase.the-variants.{Standby, AckRead, Sending, Next}
 use Rattle.parts.specs.Rows.{stepped}
 use Rattle.chip.specs.Chip.{pulls}
-use Rattle.chip.specs.Event.{next, nextArray, sampled, judged, judgedArray, reacted, reactedArray}
+use Rattle.chip.specs.Event.{next, nextArray, sampled, judged, reacted}
 use Rattle.chip.specs.Run.{World, step, noteOf, lines, notes}
 use Rattle.chip.specs.Transfer.{fallIn, byteBegun, byteEnded}
 use Rattle.chip.specs.Wire.{edgeOf}
@@ -60,20 +60,20 @@ module _ (c : Chip) (xs : List ℕ) (load : Load) where
   -- the first clock brings bit 7 of the byte at the counter
   bit-first : (begins : Begins) (counter : ℕ)
       → Says (reads counter false (from begins)) (clock true) (twice (bitOf (getD xs counter 0) 7 ∷ [])) (reads counter (bitOf (getD xs counter 0) 7) (Sending 7 (getD xs counter 0)))
-  unfolding twice stepped lines notes noteOf silent step next nextArray sampled judged judgedArray reacted reactedArray edgeOf pulls phasePulls risen fallIn byteBegun pinned
+  unfolding twice stepped lines notes noteOf silent step next nextArray sampled judged reacted edgeOf pulls phasePulls risen fallIn byteBegun pinned
   bit-first read counter = bit-sent (reads counter false AckRead) counter (Sending 7 (getD xs counter 0)) (bitOf (getD xs counter 0) 7) (record { plays = λ pins. record { ends = refl; hears = refl; tells = refl } })
   bit-first on counter = bit-sent (reads counter false Next) counter (Sending 7 (getD xs counter 0)) (bitOf (getD xs counter 0) 7) (record { plays = λ pins. record { ends = refl; hears = refl; tells = refl } })
 
   -- each of the next ones the next bit
   bit-next : (counter : ℕ) (line : Bool) (i byte : ℕ)
       → Says (reads counter line (Sending (suc i) byte)) (clock true) (twice (bitOf byte i ∷ [])) (reads counter (bitOf byte i) (Sending i byte))
-  unfolding twice stepped lines notes noteOf silent step next nextArray sampled judged judgedArray reacted reactedArray edgeOf pulls phasePulls risen fallIn pinned
+  unfolding twice stepped lines notes noteOf silent step next nextArray sampled judged reacted edgeOf pulls phasePulls risen fallIn pinned
   bit-next counter line i byte = bit-sent (reads counter line (Sending (suc i) byte)) counter (Sending i byte) (bitOf byte i) (record { plays = λ pins. record { ends = refl; hears = refl; tells = refl } })
 
   -- in the ninth the chip lets go and the counter rises: pulled, the next byte follows; let go, standby
   ninth : (counter : ℕ) (line another : Bool) (byte : ℕ)
       → Says (reads counter line (Sending zero byte)) (clock (not another)) (twice (not another ∷ [])) (reads (nextAddress counter) (not another) (cond another Next Standby))
-  unfolding twice stepped lines notes noteOf silent step next nextArray sampled judged judgedArray reacted reactedArray edgeOf pulls phasePulls risen fallIn byteEnded pinned
+  unfolding twice stepped lines notes noteOf silent step next nextArray sampled judged reacted edgeOf pulls phasePulls risen fallIn byteEnded pinned
   ninth counter line true byte = record { plays = λ pins. record { ends = refl; hears = refl; tells = refl } }
   ninth counter line false byte = record { plays = λ pins. record { ends = refl; hears = refl; tells = refl } }
 

@@ -15,10 +15,10 @@ use Rattle.parts.specs.declared.phase.Phase.the-variants.{Standby, Slave, First
 use Rattle.parts.proofs.RowLaws.{below, each}
 use Rattle.parts.specs.Rows.{stepped}
 use Rattle.chip.specs.Chip.{pulls, withTransfer}
-use Rattle.chip.specs.Event.{next, nextArray, sampled, judged, judgedArray, reacted, reactedArray}
+use Rattle.chip.specs.Event.{next, nextArray, sampled, judged, reacted}
 use Rattle.chip.specs.Part.{enabled}
 use Rattle.chip.specs.Run.{World, world, step, noteOf, lines, notes}
-use Rattle.chip.specs.Stop.{rightly, stopEffect, effectMoved, effectArray}
+use Rattle.chip.specs.Stop.{rightly, stopEffect, effectMoved}
 use Rattle.chip.specs.Transfer.{fallIn, slaveTaken, addressTaken, arrayData, registerData}
 use Rattle.chip.specs.Wire.{edgeOf}
 use Rattle.chip.specs.declared.chip.Chip.{Chip}
@@ -79,7 +79,7 @@ module _ (c : Chip) (xs : List ℕ) where
   -- a chip that rests sees a START, whatever its last levels
   pub begun : (counter : ℕ) (mark scl line : Bool)
       → Says (resting c xs counter mark scl line) begin (true ∷ false ∷ []) (idle c xs counter mark noLoad false (Slave 0 0))
-  unfolding stepped lines notes noteOf silent step next nextArray sampled judged judgedArray reacted reactedArray edgeOf pulls phasePulls risen stopEffect rightly effectMoved effectArray pinned
+  unfolding stepped lines notes noteOf silent step next nextArray sampled judged reacted edgeOf pulls phasePulls risen stopEffect rightly effectMoved pinned
   begun counter mark true true = record { plays = λ pins. record { ends = refl; hears = refl; tells = refl } }
   begun counter mark true false = record { plays = λ pins. record { ends = refl; hears = refl; tells = refl } }
   begun counter mark false true = record { plays = λ pins. record { ends = refl; hears = refl; tells = refl } }
@@ -89,7 +89,7 @@ module _ (c : Chip) (xs : List ℕ) where
   bits-taken : (wanted : Wanted) (counter : ℕ) (mark : Bool) (load : Load) (b7 b6 b5 b4 b3 b2 b1 b0 : Bool)
       → Says (idle c xs counter mark load false (before wanted)) (clocks (b7 ∷ b6 ∷ b5 ∷ b4 ∷ b3 ∷ b2 ∷ b1 ∷ b0 ∷ [])) (twice (b7 ∷ b6 ∷ b5 ∷ b4 ∷ b3 ∷ b2 ∷ b1 ∷ b0 ∷ []))
       (idle c xs counter mark load b0 (full wanted (byteOf 0 (b7 ∷ b6 ∷ b5 ∷ b4 ∷ b3 ∷ b2 ∷ b1 ∷ b0 ∷ []))))
-  unfolding twice stepped lines notes noteOf silent step next nextArray sampled judged judgedArray reacted reactedArray edgeOf pulls phasePulls risen fallIn clocks pinned byteOf
+  unfolding twice stepped lines notes noteOf silent step next nextArray sampled judged reacted edgeOf pulls phasePulls risen fallIn clocks pinned byteOf
   bits-taken slave counter mark load b7 b6 b5 b4 b3 b2 b1 b0 = record { plays = λ pins. record { ends = refl; hears = refl; tells = refl } }
   bits-taken first counter mark load b7 b6 b5 b4 b3 b2 b1 b0 = record { plays = λ pins. record { ends = refl; hears = refl; tells = refl } }
   bits-taken more counter mark load b7 b6 b5 b4 b3 b2 b1 b0 = record { plays = λ pins. record { ends = refl; hears = refl; tells = refl } }
@@ -109,44 +109,44 @@ module _ (c : Chip) (xs : List ℕ) where
   slave-acked : (reads : Bool) (counter : ℕ) (mark : Bool) (load : Load) (line : Bool) (got : ℕ)
       → eqb (got / 16) 0b1010 ≡ true → eqb (got / 2 % 8) (c .select) ≡ true → eqb (got % 2) 0 ≡ not reads
       → Says (idle c xs counter mark load line (Slave 8 got)) (clock true) (false ∷ false ∷ []) (idle c xs counter mark load false (cond reads AckRead AckWrite))
-  unfolding stepped lines notes noteOf silent step next nextArray sampled judged judgedArray reacted reactedArray edgeOf pulls phasePulls risen fallIn slaveTaken pinned
+  unfolding stepped lines notes noteOf silent step next nextArray sampled judged reacted edgeOf pulls phasePulls risen fallIn slaveTaken pinned
   slave-acked true counter mark load line got p q r = record { plays = λ pins. record { ends = rw (p, q, r); hears = rw (p, q, r); tells = refl } }
   slave-acked false counter mark load line got p q r = record { plays = λ pins. record { ends = rw (p, q, r); hears = rw (p, q, r); tells = refl } }
 
   -- and so is the first address byte
   first-acked : (counter : ℕ) (mark : Bool) (load : Load) (line : Bool) (got : ℕ)
       → Says (idle c xs counter mark load line (First 8 got)) (clock true) (false ∷ false ∷ []) (idle c xs counter mark load false (AckFirst got))
-  unfolding stepped lines notes noteOf silent step next nextArray sampled judged judgedArray reacted reactedArray edgeOf pulls phasePulls risen fallIn pinned
+  unfolding stepped lines notes noteOf silent step next nextArray sampled judged reacted edgeOf pulls phasePulls risen fallIn pinned
   first-acked counter mark load line got = record { plays = λ pins. record { ends = refl; hears = refl; tells = refl } }
 
   -- and the second, which clears the mark and sets the counter where the address is not FFFFh
   second-acked : (counter : ℕ) (mark : Bool) (load : Load) (line : Bool) (high got : ℕ) → eqb (high * 256 + got) 0xffff ≡ false
       → Says (idle c xs counter mark load line (Second high 8 got)) (clock true) (false ∷ false ∷ []) (idle c xs ((high * 256 + got) % 0x4000) false load false AckByte)
-  unfolding stepped lines notes noteOf silent step next nextArray sampled judged judgedArray reacted reactedArray edgeOf pulls phasePulls risen fallIn addressTaken pinned
+  unfolding stepped lines notes noteOf silent step next nextArray sampled judged reacted edgeOf pulls phasePulls risen fallIn addressTaken pinned
   second-acked counter mark load line high got p = record { plays = λ pins. record { ends = rw p; hears = rw p; tells = rw p } }
 
   -- FFFFh sets it and leaves the counter
   register-acked : (counter : ℕ) (mark : Bool) (load : Load) (line : Bool)
       → Says (idle c xs counter mark load line (Second 255 8 255)) (clock true) (false ∷ false ∷ []) (idle c xs counter true load false AckByte)
-  unfolding stepped lines notes noteOf silent step next nextArray sampled judged judgedArray reacted reactedArray edgeOf pulls phasePulls risen fallIn addressTaken pinned
+  unfolding stepped lines notes noteOf silent step next nextArray sampled judged reacted edgeOf pulls phasePulls risen fallIn addressTaken pinned
   register-acked counter mark load line = record { plays = λ pins. record { ends = refl; hears = refl; tells = refl } }
 
   -- a data byte for the array joins the load where PEL is set
   data-acked : (counter : ℕ) (load : Load) (line : Bool) (got : ℕ) → enabled (c .part) (c .register .pel) ≡ true
       → Says (idle c xs counter false load line (Data 8 got)) (clock true) (false ∷ false ∷ []) (idle c xs (nextPlace counter) false (loaded load counter got) false AckByte)
-  unfolding stepped lines notes noteOf silent step next nextArray sampled judged judgedArray reacted reactedArray edgeOf pulls phasePulls risen fallIn arrayData pinned
+  unfolding stepped lines notes noteOf silent step next nextArray sampled judged reacted edgeOf pulls phasePulls risen fallIn arrayData pinned
   data-acked counter load line got p = record { plays = λ pins. record { ends = rw p; hears = rw p; tells = rw p } }
 
   -- the first one for the register is kept at place 0
   byte-acked : (counter : ℕ) (line : Bool) (got : ℕ)
       → Says (idle c xs counter true noLoad line (Data 8 got)) (clock true) (false ∷ false ∷ []) (idle c xs counter true (loaded noLoad 0 got) false AckByte)
-  unfolding stepped lines notes noteOf silent step next nextArray sampled judged judgedArray reacted reactedArray edgeOf pulls phasePulls risen fallIn registerData pinned
+  unfolding stepped lines notes noteOf silent step next nextArray sampled judged reacted edgeOf pulls phasePulls risen fallIn registerData pinned
   byte-acked counter line got = record { plays = λ pins. record { ends = refl; hears = refl; tells = refl } }
 
   -- 2, 3, 1 ends the acknowledge and makes a START, which drops no load
   pub restarted : (counter : ℕ) (mark : Bool)
       → Says (idle c xs counter mark noLoad false AckByte) restart (true ∷ true ∷ false ∷ []) (idle c xs counter mark noLoad false (Slave 0 0))
-  unfolding stepped lines notes noteOf silent step next nextArray sampled judged judgedArray reacted reactedArray edgeOf pulls phasePulls risen fallIn pinned
+  unfolding stepped lines notes noteOf silent step next nextArray sampled judged reacted edgeOf pulls phasePulls risen fallIn pinned
   restarted counter mark = record { plays = λ pins. record { ends = refl; hears = refl; tells = refl } }
 
   -- the slave byte with the chip's select, written or read

@@ -1,5 +1,5 @@
--- Messages that write, from a chip that rests to one that rests again: 02h to the register sets PEL, and 32 bytes at a sector's start are stored
--- there, or not where it is locked. Every byte is acknowledged, and the STOP alone has a note. Assumes nothing.
+-- Messages that write, from a chip that rests to one that rests again: 02h to the register sets PEL, and 32 bytes at a sector's start wait at the
+-- STOP and are stored there at the end of the cycle, or not where it is locked. Every byte is acknowledged, and the STOP alone has a note. Assumes nothing.
 use Prim.Native.Nat.{ℕ, zero, suc, _+_, _*_, _/_, _≤_, _<_}
 use mathlib.Core.Bool.{Bool, true, false, cond, not, and-false}
 use mathlib.Core.List.{List, [], _∷_, _++_}
@@ -7,26 +7,31 @@ use mathlib.Core.Path.{_≡_, refl, ap, _∙_}
 use native.Mathlib.Nat.{add-assoc}
 use native.Mathlib.Omega.{arith}
 use lib.Dec.{eqb}
-use lib.ListN.{length, getD}
+use lib.ListN.{length, getD, replicate}
 use lib.Seq.{getD-append-add}
-use Rattle.parts.specs.Load.{noLoad, whole, loaded, stored}
+use Rattle.parts.specs.Load.{noLoad, whole, loaded}
 use Rattle.parts.specs.Locks.{locked}
 use Rattle.parts.specs.Phase.{risen, phasePulls}
 use Rattle.parts.specs.Register.{withPel, withRpel, written, writtenAs, latchWritten}
 use Rattle.parts.specs.Rows.{stepped}
 use Rattle.parts.specs.Sector.{sectorStart, nextPlace, Bytes}
+use Rattle.parts.specs.Wait.{noWait, chosen, everyPlace, taking, storedTo, stored, waitFor, waits, reached, endArray, locksTaken}
 use Rattle.parts.specs.declared.load.Load.{Load}
 use Rattle.parts.specs.declared.phase.Phase.the-variants.{Standby, Data, AckByte}
-use Rattle.chip.specs.Chip.{pulls, withTransfer, withCycle}
-use Rattle.chip.specs.Event.{next, nextArray, sampled, judged, judgedArray, reacted, reactedArray}
+use Rattle.parts.specs.declared.register.Register.{Register}
+use Rattle.parts.specs.declared.wait.Target.the-variants.{None}
+use Rattle.parts.proofs.WaitLaws.{wait-whole}
+use Rattle.chip.specs.Chip.{pulls, withTransfer, withCycle, atPowerUp, cutRegister, cutArray}
+use Rattle.chip.specs.Event.{next, nextArray, sampled, judged, reacted, programDone}
 use Rattle.chip.specs.Part.{enabled}
 use Rattle.chip.specs.Run.{world, step, noteOf, lines, notes}
-use Rattle.chip.specs.Stop.{rightly, arrayEffect, rightEffect, stopEffect, effectMoved, effectArray}
+use Rattle.chip.specs.Stop.{rightly, arrayEffect, rightEffect, stopEffect, effectMoved}
 use Rattle.chip.specs.Transfer.{fallIn}
 use Rattle.chip.specs.Wire.{edgeOf}
 use Rattle.chip.specs.declared.chip.Chip.{Chip}
 use Rattle.chip.specs.declared.chip.Effect.{Effect}
 use Rattle.chip.specs.declared.chip.Effect.the-variants.{Nothing, Change, Store}
+use Rattle.chip.specs.declared.wire.Event.the-variants.{ProgramDone, PowerUp}
 use Rattle.chip.proofs.Posed.{posed}
 use Rattle.messages.specs.Messages.{begin, end, byteSent, bytesSent, messageBytes, message, registerWrite}
 use Rattle.messages.specs.RandomRead.{AckAt}
@@ -48,13 +53,24 @@ heardMessage bytes = (true ∷ false ∷ []) ++ heardRow bytes ++ (false ∷ fal
 abbrev pub toldMessage : List ℕ → ℕ → List ℕ
 toldMessage bytes note = silent (begin ++ bytesSent bytes) ++ (0 ∷ 0 ∷ note ∷ [])
 
--- what a whole load leaves of the chip and of the array: a cycle, or nothing where the sector is locked
-abbrev pub chipThen : Chip → ℕ → Bool → Chip
-chipThen c counter shut =
-    posed (withTransfer (withCycle c (withRpel (c .register) (cond shut (c .register .rpel) false)) (not shut)) Standby counter false noLoad) (not shut) true true Standby
+-- the register after a whole load: a cycle clears RPEL
+abbrev registerThen : Chip → Bool → Register
+registerThen c shut = withRpel (c .register) (cond shut (c .register .rpel) false)
 
-abbrev pub arrayThen : List ℕ → ℕ → List ℕ → Bool → List ℕ
-arrayThen xs start bytes shut = cond shut xs (stored xs start (whole bytes))
+-- what a whole load leaves of the chip at the STOP: a cycle in which it waits, or nothing where the sector is locked
+abbrev pub chipThen : Chip → ℕ → List ℕ → Bool → Chip
+chipThen c sector bytes shut =
+    posed (withTransfer (withCycle c (registerThen c shut) (not shut) (cond shut (c .wait) (waitFor sector (whole bytes)))) Standby (sector * 32) false noLoad)
+    (not shut) true true Standby
+
+-- and after a program-done
+abbrev pub chipDone : Chip → ℕ → Bool → Chip
+chipDone c sector shut =
+    posed (withTransfer (withCycle c (registerThen c shut) false (cond shut (c .wait) noWait)) Standby (sector * 32) false noLoad) false true true Standby
+
+-- what the cycle's end leaves of the array: each chosen place of the sector has its new byte
+abbrev pub arrayThen : List ℕ → ℕ → List ℕ → ℕ → Bool → List ℕ
+arrayThen xs sector bytes choices shut = cond shut xs (stored xs (sector * 32) (chosen choices) bytes)
 
 module _ (c : Chip) (xs : List ℕ) where
   -- the chip at the STOP: after the last acknowledge the clock has risen once
@@ -67,7 +83,7 @@ module _ (c : Chip) (xs : List ℕ) where
 
   -- 02h sets PEL, where RPEL is clear
   pel-effect : (counter : ℕ) (pin : Bool) → c .register .rpel ≡ false
-      → stopEffect (stopping counter true (loaded noLoad 0 0x02)) pin ≡ Change (writtenAs (withPel (c .register) true) false 3)
+      → stopEffect (stopping counter true (loaded noLoad 0 0x02)) pin ≡ Change (writtenAs (withPel (c .register) true) None 3)
   unfolding stopEffect rightEffect rightly written latchWritten loaded
   pel-effect counter pin off = rw off
 
@@ -80,23 +96,24 @@ module _ (c : Chip) (xs : List ℕ) where
   -- the STOP after 02h
   pel-stopped : (counter : ℕ) (pin : Bool) → c .register .rpel ≡ false
       → Plays (idle c xs counter true (loaded noLoad 0 0x02) false AckByte) (pinned (λ k. pin) end) (false ∷ false ∷ true ∷ []) (0 ∷ 0 ∷ 3 ∷ [])
-      (resting (withCycle c (withPel (c .register) true) false) xs 0x0000 false true true)
-  unfolding stepped lines notes noteOf step next nextArray sampled judged judgedArray reacted reactedArray edgeOf pulls phasePulls risen fallIn pinned effectMoved effectArray
+      (resting (withCycle c (withPel (c .register) true) false (c .wait)) xs 0x0000 false true true)
+  unfolding stepped lines notes noteOf step next nextArray sampled judged reacted edgeOf pulls phasePulls risen fallIn pinned effectMoved waits
   pel-stopped counter pin off =
       let e = pel-effect counter pin off in
       record { ends = rw e; hears = rw e; tells = ap (said counter true (loaded noLoad 0 0x02)) e }
 
-  -- the STOP after a whole load
-  whole-stopped : (counter : ℕ) (bytes : List ℕ) (pin shut : Bool) → locked (c .part) (c .register .bl) pin (sectorStart counter) ≡ shut
-      → Plays (idle c xs counter false (whole bytes) false AckByte) (pinned (λ k. pin) end) (false ∷ false ∷ true ∷ []) (0 ∷ 0 ∷ cond shut 4 1 ∷ [])
-      (world (chipThen c counter shut) (arrayThen xs (sectorStart counter) bytes shut))
-  unfolding stepped lines notes noteOf step next nextArray sampled judged judgedArray reacted reactedArray edgeOf pulls phasePulls risen fallIn pinned effectMoved effectArray
-  whole-stopped counter bytes pin true e =
-      let f = whole-effect counter bytes pin true e in
-      record { ends = rw f; hears = rw f; tells = ap (said counter false (whole bytes)) f }
-  whole-stopped counter bytes pin false e =
-      let f = whole-effect counter bytes pin false e in
-      record { ends = rw f; hears = rw f; tells = ap (said counter false (whole bytes)) f }
+  -- the STOP after a whole load: no byte is written yet
+  whole-stopped : (sector : ℕ) (bytes : List ℕ) (pin shut : Bool) → locked (c .part) (c .register .bl) pin (sectorStart (sector * 32)) ≡ shut
+      → Plays (idle c xs (sector * 32) false (whole bytes) false AckByte) (pinned (λ k. pin) end) (false ∷ false ∷ true ∷ []) (0 ∷ 0 ∷ cond shut 4 1 ∷ [])
+      (world (chipThen c sector bytes shut) xs)
+  unfolding stepped lines notes noteOf step next nextArray sampled judged reacted edgeOf pulls phasePulls risen fallIn pinned effectMoved
+  whole-stopped sector bytes pin true e =
+      let f = whole-effect (sector * 32) bytes pin true e in
+      record { ends = rw f; hears = rw f; tells = ap (said (sector * 32) false (whole bytes)) f }
+  whole-stopped sector bytes pin false e =
+      let f = whole-effect (sector * 32) bytes pin false e in
+      let here : sector * 32 / 32 ≡ sector = omega arith in
+      record { ends = rw (f, here); hears = rw f; tells = ap (said (sector * 32) false (whole bytes)) f }
 
   -- a row of data bytes for the array, with PEL set
   row-sent : (bytes : List ℕ) (counter : ℕ) (load : Load) → enabled (c .part) (c .register .pel) ≡ true → Bytes bytes
@@ -110,7 +127,7 @@ module _ (c : Chip) (xs : List ℕ) where
   pub pel-message : (counter : ℕ) (mark scl line pin : Bool) → c .select ≤ 7 → c .register .rpel ≡ false
       → let row : List ℕ = messageBytes (c .select) 0xffff (0x02 ∷ []) in
       Plays (resting c xs counter mark scl line) (pinned (λ k. pin) (registerWrite (c .select) 0x02)) (heardMessage row) (toldMessage row 3)
-      (resting (withCycle c (withPel (c .register) true) false) xs 0x0000 false true true)
+      (resting (withCycle c (withPel (c .register) true) false (c .wait)) xs 0x0000 false true true)
   unfolding heardRow heardSent twice byteSent clocks
   pel-message counter mark scl line pin h off =
       rw (steady-on (begin ++ bytesSent (messageBytes (c .select) 0xffff (0x02 ∷ []))) end pin)
@@ -122,12 +139,12 @@ module _ (c : Chip) (xs : List ℕ) where
       (byte-sent c xs counter 0x02 (omega arith))))) .plays (λ k. pin))
       (pel-stopped counter pin off))
 
-  -- a message that writes 32 bytes at the start of a sector, with PEL set
+  -- a message that writes 32 bytes at the start of a sector, with PEL set: they wait
   pub sector-message : (counter : ℕ) (mark scl line pin shut : Bool) (sector : ℕ) (bytes : List ℕ) → c .select ≤ 7 → enabled (c .part) (c .register .pel) ≡ true
       → sector ≤ 511 → length bytes ≡ 32 → Bytes bytes → locked (c .part) (c .register .bl) pin (sector * 32) ≡ shut
       → let row : List ℕ = messageBytes (c .select) (sector * 32) bytes in
       Plays (resting c xs counter mark scl line) (pinned (λ k. pin) (message (c .select) (sector * 32) bytes)) (heardMessage row) (toldMessage row (cond shut 4 1))
-      (world (chipThen c (sector * 32) shut) (arrayThen xs (sector * 32) bytes shut))
+      (world (chipThen c sector bytes shut) xs)
   unfolding heardRow
   sector-message counter mark scl line pin shut sector bytes h on within sized byte-wide e =
       let start : sectorStart (sector * 32) ≡ sector * 32 = omega arith in
@@ -139,7 +156,40 @@ module _ (c : Chip) (xs : List ℕ) where
       (then (first-sent c xs counter mark noLoad (sector * 32 / 256) (omega arith))
       (then (second-sent c xs counter mark noLoad (sector * 32) (omega arith))
       (rw (row-loaded sector bytes sized, row-place sector bytes sized) at row)))) .plays (λ k. pin))
-      (rw start at (whole-stopped (sector * 32) bytes pin shut (rw start e))))
+      (whole-stopped sector bytes pin shut (rw start e)))
+
+-- where all places are loaded, those that are chosen take their bytes
+all-loaded : (xs : List ℕ) (start choices : ℕ) (bytes : List ℕ) → stored xs start (taking (replicate 32 true) choices) bytes ≡ stored xs start (chosen choices) bytes
+unfolding storedTo
+all-loaded xs start choices bytes = refl
+
+-- so 32 bytes that wait are stored as they are
+pub whole-ends : (sector : ℕ) (bytes : List ℕ) (choices : ℕ) (xs : List ℕ) → length bytes ≡ 32
+    → endArray (waitFor sector (whole bytes)) choices xs ≡ stored xs (sector * 32) (chosen choices) bytes
+unfolding reached
+whole-ends sector bytes choices xs sized =
+    ap (stored xs (sector * 32) (taking (replicate 32 true) choices)) (wait-whole sector bytes sized) ∙ all-loaded xs (sector * 32) choices bytes
+
+module _ (c : Chip) (xs : List ℕ) (sector : ℕ) (bytes : List ℕ) (sized : length bytes ≡ 32) where
+  -- the program-done after that message stores them and ends busy
+  pub sector-done : (shut : Bool)
+      → Plays (world (chipThen c sector bytes shut) xs) (ProgramDone ∷ []) (true ∷ []) (0 ∷ []) (world (chipDone c sector shut) (arrayThen xs sector bytes everyPlace shut))
+  unfolding stepped lines notes noteOf step next nextArray programDone cutRegister cutArray locksTaken
+  sector-done true = record { ends = refl; hears = refl; tells = refl }
+  sector-done false = record { ends = ap (world (chipDone c sector false)) (whole-ends sector bytes everyPlace xs sized); hears = refl; tells = refl }
+
+  -- a power-up in its place stores those that are chosen, PPEN and BL as they were
+  pub sector-cut : (choices : ℕ) (shut : Bool)
+      → Plays (world (chipThen c sector bytes shut) xs) (PowerUp choices ∷ []) (true ∷ []) (0 ∷ [])
+      (world (atPowerUp (c .part) (c .select) (c .register .ppen) (c .register .bl) (c .spoil)) (arrayThen xs sector bytes choices shut))
+  unfolding stepped lines notes noteOf step next nextArray cutRegister cutArray locksTaken
+  sector-cut choices true = record { ends = refl; hears = refl; tells = refl }
+  sector-cut choices false =
+      record {
+        ends = ap (world (atPowerUp (c .part) (c .select) (c .register .ppen) (c .register .bl) (c .spoil))) (whole-ends sector bytes choices xs sized);
+        hears = refl;
+        tells = refl;
+      }
 
 -- the ninth clock of each byte of a row is low in both halves
 acks-in : (bytes : List ℕ) (rest : List Bool) (half k : ℕ) → half < 2 → k < length bytes → getD (heardRow bytes ++ rest) (18 * k + (16 + half)) true ≡ false

@@ -6,3 +6,5 @@ pub mod PhaseLaws
 pub mod RegisterLaws
 pub mod RowLaws
 pub mod SectorLaws
+pub mod StoreLaws
+pub mod WaitLaws

@@ -4,3 +4,4 @@ pub mod Phase
 pub mod Register
 pub mod Rows
 pub mod Sector
+pub mod Wait

@@ -1,5 +1,4 @@
--- The load: what comes in for a sector, and what a store of it leaves in the array.
--- (RULES C9, C10, T13, S7, S9.)
+-- The load: what comes in for a sector. (RULES C9, C10, T13, S7.)
 --
 -- | Name | Meaning |
 -- |---|---|
@@ -7,13 +6,11 @@
 -- | `whole bytes`, `fullOf byte` | a load of these 32 bytes, from the sector's start on; of 32 times the same |
 -- | `counted n` | the count after one byte more |
 -- | `loaded load at byte` | the load with a byte more, at the place of an address |
--- | `placed`, `storedTo k` | one place of a store; its first k places |
--- | `stored xs start load` | the array after a store in the sector that begins at `start` |
-use Prim.Native.Nat.{ℕ, zero, suc, _+_, _%_}
+use Prim.Native.Nat.{ℕ, _+_, _%_}
 use mathlib.Core.Bool.{true, false, cond}
 use mathlib.Core.List.{List}
 use lib.Dec.{ltb}
-use lib.ListN.{getD, set, replicate}
+use lib.ListN.{set, replicate}
 use Rattle.parts.specs.declared.load.Load.{Load}
 
 -- C10: zeros, no place loaded, count 0 (reading: after a START and a STOP in every case)
@@ -36,16 +33,3 @@ counted count = cond (ltb count 33) (count + 1) 33
 unfoldable pub loaded : Load → ℕ → ℕ → Load
 loaded load at byte =
     record { bytes = set (load .bytes) (at % 32) byte; places = set (load .places) (at % 32) true; count = counted (load .count) }
-
--- S9: one place: loaded, it takes its byte; else it keeps its own
-abbrev pub placed : List ℕ → ℕ → Load → ℕ → List ℕ
-placed xs start load k = cond (getD (load .places) k false) (set xs (start + k) (getD (load .bytes) k 0)) xs
-
--- place after place
-unfoldable pub storedTo : ℕ → List ℕ → ℕ → Load → List ℕ
-storedTo zero xs start load = xs
-storedTo (suc k) xs start load = placed (storedTo k xs start load) start load k
-
--- all 32 places
-abbrev pub stored : List ℕ → ℕ → Load → List ℕ
-stored xs start load = storedTo 32 xs start load

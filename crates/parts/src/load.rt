@@ -1,9 +1,6 @@
-// The load: what comes in for a sector, and what a store of it leaves in the array.
+// The load: what comes in for a sector.
 ghost use mathlib.Core.Path.{_≡_};
-ghost use Prim.Native.Nat.{_+_};
-ghost use lib.ListN.{set};
-ghost use mathlib.Core.Bool.{cond};
-ghost use Rattle.parts.specs.Load.{noLoad, fullOf, loaded, stored};
+ghost use Rattle.parts.specs.Load.{noLoad, fullOf, loaded};
 
 // 32 bytes, which places are loaded, and how many bytes came, where 33 means 33 or more.
 pub struct Load {
@@ -13,20 +10,6 @@ pub struct Load {
     pub places: [bool; 32],
     // how many bytes came, 0-33
     pub count: u8,
-}
-
-// One place of a store: where it is loaded and the array has its address, it takes its byte.
-fn put(array: &mut [u8], start: usize, k: usize, on: bool, byte: u8)
-    ensures { λ r. ⌜ now (array .exit) ≡ cond on (set (now (array .entry)) (start + k) byte) (now (array .entry)) ⌝ }
-{
-    let n = array.len();
-    if on {
-        if start < n {
-            if k < n - start {
-                array[start + k] = byte;
-            }
-        }
-    }
 }
 
 impl Load {
@@ -67,17 +50,6 @@ impl Load {
         } else {
             next.count = 33;
             next
-        }
-    }
-
-    // Stores the load in the sector that begins at `start`: loaded places take their bytes, the others keep theirs.
-    pub fn store(self, array: &mut [u8], start: usize)
-        ensures { λ r. ⌜ now (array .exit) ≡ stored (now (array .entry)) start self ⌝ }
-    {
-        let mut k: usize = 0;
-        while k < 32 {
-            put(array, start, k, self.places[k], self.bytes[k]);
-            k = k + 1;
         }
     }
 }

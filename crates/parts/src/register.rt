@@ -1,9 +1,10 @@
 // The register: its four bits, the byte that it reads as, and what a byte written to it does.
 ghost use mathlib.Core.Path.{_≡_};
-ghost use mathlib.Core.Bool.{false};
+ghost use Rattle.parts.specs.declared.wait.Target.the-variants.{None};
 ghost use Rattle.parts.specs.Register.{registerByte, written, reserved, writtenAs, latchWritten, lockWritten};
 use crate::phase::bit_of;
 use crate::phase::weigh;
+use crate::wait::Target;
 
 pub struct Register {
     // hardware protection: with the pin high at the stop, PPEN and BL are not written
@@ -16,10 +17,10 @@ pub struct Register {
     pub pel: bool,
 }
 
-// What a register byte did at its stop: the register after it, whether a cycle began, and the note.
+// What a register byte did at its stop: the register after it, what waits where a cycle began, and the note.
 pub struct Written {
     pub register: Register,
-    pub busy: bool,
+    pub target: Target,
     pub note: u8,
 }
 
@@ -44,11 +45,11 @@ impl Register {
 
     // A byte that changes no bit: note 6.
     fn refused(self) -> Written
-        ensures { λ r. ⌜ r ≡ writtenAs self false 6 ⌝ }
+        ensures { λ r. ⌜ r ≡ writtenAs self None 6 ⌝ }
     {
         Written {
             register: self,
-            busy: false,
+            target: Target::None,
             note: 6,
         }
     }
@@ -60,14 +61,14 @@ impl Register {
         if byte == 0 {
             return Written {
                 register: Register { pel: false, ..self },
-                busy: false,
+                target: Target::None,
                 note: 3,
             };
         }
         if byte == 2 {
             return Written {
                 register: Register { pel: true, ..self },
-                busy: false,
+                target: Target::None,
                 note: 3,
             };
         }
@@ -75,14 +76,14 @@ impl Register {
         if third {
             return Written {
                 register: Register { rpel: true, ..self },
-                busy: false,
+                target: Target::None,
                 note: 3,
             };
         }
         self.refused()
     }
 
-    // The rule for RPEL 1: PPEN and BL are taken from the byte, unless its low bits are wrong or the pin protects them.
+    // The rule for RPEL 1: PPEN and BL of the byte wait, unless its low bits are wrong or the pin protects them.
     fn lock(self, byte: u8, pin: bool) -> Written
         ensures { λ r. ⌜ r ≡ lockWritten self byte pin ⌝ }
     {
@@ -93,12 +94,13 @@ impl Register {
         let ppen = bit_of(byte, 7);
         Written {
             register: Register {
+                rpel: false,
+                ..self
+            },
+            target: Target::Locks {
                 ppen: ppen,
                 bl: byte / 8 % 4,
-                rpel: false,
-                pel: self.pel,
             },
-            busy: true,
             note: 2,
         }
     }

@@ -3,15 +3,16 @@ use Prim.Native.Nat.{ℕ, zero, suc, _≤_}
 use mathlib.Core.List.{_++_}
 use mathlib.Core.Path.{_≡_, refl}
 use native.Mathlib.Omega.{arith}
-use Rattle.parts.specs.Load.{loaded, storedTo}
+use Rattle.parts.specs.Load.{loaded}
 use Rattle.parts.specs.Locks.{firstLocked}
 use Rattle.parts.specs.Phase.{phaseFits, phasePulls, risen}
 use Rattle.parts.specs.Rows.{every, stepped}
 use Rattle.parts.specs.Register.{latchWritten, lockWritten, written}
-use Rattle.chip.specs.Chip.{chipFits, pulls}
-use Rattle.chip.specs.Event.{reacted, reactedArray, sampled, judged, judgedArray, next, nextArray, refusal}
+use Rattle.parts.specs.Wait.{storedTo, targetFits, waits, reached, locksTaken}
+use Rattle.chip.specs.Chip.{chipFits, pulls, cutRegister, cutArray}
+use Rattle.chip.specs.Event.{reacted, sampled, judged, programDone, next, nextArray, refusal}
 use Rattle.chip.specs.Run.{step, noteOf}
-use Rattle.chip.specs.Stop.{rightly, arrayEffect, rightEffect, stopEffect, effectMoved, effectArray}
+use Rattle.chip.specs.Stop.{rightly, arrayEffect, rightEffect, stopEffect, effectMoved}
 use Rattle.chip.specs.Transfer.{slaveTaken, addressTaken, arrayData, registerData, byteBegun, byteEnded, fallIn}
 use Rattle.chip.specs.Wire.{edgeOf}
 use Rattle.trace.specs.Bytes.{eventOf}
@@ -24,7 +25,7 @@ use Rattle.promises.specs.Bench.{benchOn, setsPel, short, pelText, store
 
 -- both texts, computed for each part
 computed : (part : ℕ) → part ≤ 1 → (benchOn part setsPel ≡ pelText) × (benchOn part (setsPel ++ short) ≡ storedText (shortNote part))
-unfolding loaded storedTo firstLocked phaseFits phasePulls risen every stepped latchWritten lockWritten written chipFits pulls reacted reactedArray sampled judged judgedArray next nextArray refusal step noteOf rightly arrayEffect rightEffect stopEffect effectMoved effectArray slaveTaken addressTaken arrayData registerData byteBegun byteEnded fallIn edgeOf eventOf answersOf runRefusal byteSent spelled clocks reportOf answerText digits width numeral noteLine eventLine linesFrom countText refusedText
+unfolding loaded storedTo firstLocked phaseFits phasePulls risen every stepped latchWritten lockWritten written targetFits waits reached locksTaken chipFits pulls cutRegister cutArray reacted sampled judged programDone next nextArray refusal step noteOf rightly arrayEffect rightEffect stopEffect effectMoved slaveTaken addressTaken arrayData registerData byteBegun byteEnded fallIn edgeOf eventOf answersOf runRefusal byteSent spelled clocks reportOf answerText digits width numeral noteLine eventLine linesFrom countText refusedText
 computed zero h = (refl, refl)
 computed (suc zero) h = (refl, refl)
 computed (suc (suc k)) h = absurd (omega arith)

@@ -2,16 +2,21 @@
 -- Assumes nothing.
 use Prim.Native.Nat.{ℕ, _+_, _%_, _≤_}
 use mathlib.Core.Bool.{Bool, true, false}
-use mathlib.Core.List.{List, _++_}
+use mathlib.Core.List.{List, [], _∷_, _++_}
 use mathlib.Core.Path.{_≡_, refl, ap, _∙_, sym, subst, subst₂}
 use native.Mathlib.Omega.{arith}
 use lib.ListN.{length, getD, drop}
 use Rattle.parts.specs.Sector.{Bytes}
+use Rattle.parts.specs.Rows.{every, stepped}
+use Rattle.parts.proofs.ByteLaws.{same-bytes}
+use Rattle.parts.proofs.CondLaws.{cond-by}
 use Rattle.parts.proofs.PhaseLaws.{gotOf}
+use Rattle.parts.proofs.RowLaws.{every-on, stepped-on}
 use Rattle.parts.specs.declared.phase.Phase.the-variants.{Standby}
 use Rattle.chip.specs.Chip.{chipFits, atPowerUp}
-use Rattle.chip.specs.Event.{next, nextArray, refusal}
+use Rattle.chip.specs.Event.{next, programDone, refusal}
 use Rattle.chip.specs.Run.{World, world, step}
+use Rattle.chip.specs.View.{pinHigh}
 use Rattle.chip.specs.declared.wire.Event.the-variants.{ProgramDone}
 use Rattle.chip.proofs.EventLaws.{next-taken, taken-of, taken-so}
 use Rattle.chip.proofs.FitLaws.{up-fits, fits-of, fits-so}
@@ -43,18 +48,8 @@ freed-and-read pin w fits idle address n h pins =
 
 -- program-done ends busy
 done-idle : (w : World) → step ProgramDone w .chip .busy ≡ false
-unfolding step next
-done-idle w = refl
-
--- it keeps the select
-done-select : (w : World) → step ProgramDone w .chip .select ≡ w .chip .select
-unfolding step next
-done-select w = refl
-
--- and the array
-done-array : (w : World) → step ProgramDone w .array ≡ w .array
-unfolding step nextArray
-done-array w = refl
+unfolding step next programDone
+done-idle w = cond-by (λ c. c .busy ≡ false) (w .chip .busy) _ (w .chip) (λ b. refl) (λ b. b)
 
 module _ (s : Scene) (w : World) (taken : refusal (w .chip) (w .array) ≡ 0) (p : Protected s w) where
   -- recovery is not refused after the noise: still an array of 16,384 bytes
@@ -68,14 +63,16 @@ module _ (s : Scene) (w : World) (taken : refusal (w .chip) (w .array) ≡ 0) (p
 
   -- with its own select
   select-same : done s w .chip .select ≡ w .chip .select
-  select-same = done-select (noisy s w) ∙ ran-same (s .noise) w .1
+  unfolding stepped
+  select-same = ap (λ (v : World). v .chip .select) (sym (stepped-on step (s .noise) (ProgramDone ∷ []) w)) ∙ ran-same (s .noise ++ (ProgramDone ∷ [])) w .1
 
-  -- the noise leaves every locked byte
+  -- the noise and the program-done leave every locked byte
   noise-keeps : held (done s w .array) (s .address) (s .n) ≡ held (w .array) (s .address) (s .n)
+  unfolding stepped every pinHigh
   noise-keeps =
       held-same (done s w .array) (w .array) (s .n) (s .address) (p .address-in)
-      (λ k l. ap (λ (xs : List ℕ). getD xs ((s .address + k) % 0x4000) 0) (done-array (noisy s w))
-      ∙ ran-guarded (s .noise) w (p .ppen-set) (p .pin-high) .bytes ((s .address + k) % 0x4000) (p .stays-locked k l))
+      (λ k l. ap (λ (v : World). getD (v .array) ((s .address + k) % 0x4000) 0) (sym (stepped-on step (s .noise) (ProgramDone ∷ []) w))
+      ∙ ran-guarded (s .noise ++ (ProgramDone ∷ [])) w (p .ppen-set) (p .idle) (every-on pinHigh (s .noise) (ProgramDone ∷ []) (p .pin-high) refl) .bytes ((s .address + k) % 0x4000) (p .stays-locked k l))
 
   -- and the read returns them
   read-back : Returns (s .n) (heard s w) (held (w .array) (s .address) (s .n))
@@ -128,7 +125,7 @@ unfolding gotOf
 demand-3 s w f p =
     protected-read s w
     (rw (f .after-run) (ran-taken (f .run) up (taken-so (up .chip) (up .array) (f .array-whole) (fits-so (up .chip) (up-fits (f .part) (f .select) (f .ppen) (f .bl) (f .spoil) (f .part-in) (f .select-in) (f .bl-in))))))
-    (rw (f .after-run) (ran-bytes (f .run) up (none-octets Standby (omega arith), f .array-bytes, f .spoil-in) .1))
+    (rw (f .after-run) (ran-bytes (f .run) up (none-octets Standby (omega arith), f .array-bytes, f .spoil-in, same-bytes 32 0 (omega arith)) .1))
     p
   where
     up : World

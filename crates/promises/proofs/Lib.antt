@@ -3,6 +3,7 @@ pub mod Cases
 pub mod Demand3
 pub mod Map
 pub mod OneAnswer
+pub mod PowerCut
 pub mod Sender
 pub mod SenderRuns
 pub mod Spoil

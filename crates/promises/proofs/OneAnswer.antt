@@ -8,18 +8,21 @@ use mathlib.Core.Path.{_≡_, sym, _∙_}
 use contract.Lifetimes.{Lfts}
 use denote.Ref.{now}
 use lib.ListN.{length, drop}
-use Rattle.parts.specs.Load.{noLoad, fullOf, loaded, stored}
+use Rattle.parts.specs.Load.{noLoad, fullOf, loaded}
 use Rattle.parts.specs.Locks.{locked}
 use Rattle.parts.specs.Phase.{weight, received, bitOf, phaseFits, phasePulls, risen}
 use Rattle.parts.specs.Register.{registerByte, written}
 use Rattle.parts.specs.Sector.{sectorStart, nextPlace, nextAddress}
+use Rattle.parts.specs.Wait.{alone as by-itself, noWait, waitFor, targetFits, waits, endArray, locksTaken}
 use Rattle.parts.proofs.register
 use Rattle.parts.proofs.load
 use Rattle.parts.proofs.locks
 use Rattle.parts.proofs.sector
 use Rattle.parts.proofs.phase
+use Rattle.parts.proofs.wait
 use Rattle.chip.specs.Chip.{withSpoil, standardChip, made}
 use Rattle.chip.specs.Event.{next, nextArray, refusal, eventAnswer, eventArray}
+use Rattle.chip.specs.declared.wire.Event.the-variants.{PowerUp}
 use Rattle.chip.proofs.chip.Chip
 use Rattle.trace.specs.Bytes.{eventOf, sampleByte, answerByte}
 use Rattle.trace.specs.Trace.{runRefusal, ranOf, runArray, runAnswers}
@@ -147,10 +150,34 @@ operations =
     ∷ one (whole 0 load.Load.with.Kinds.ps load.Load.with.Kinds.r load.Load.with.Reads.Post)
     (λ κs (self, (at, (byte, end))). (loaded self at byte, (tt, (tt, (tt, tt)))))
     (λ κs input r left. alone)
-    -- Load::store, which answers nothing and stores in the array
-    ∷ one (whole 1 load.Load.store.Kinds.ps load.Load.store.Kinds.r load.Load.store.Reads.Post)
-    (λ κs (self, (array, (start, end))). (tt, (tt, (stored (now array) start self, (tt, tt)))))
+    -- Target::fits
+    ∷ one (whole 0 wait.Target.fits.Kinds.ps wait.Target.fits.Kinds.r wait.Target.fits.Reads.Post)
+    (λ κs (self, end). (targetFits self, (tt, tt)))
+    (λ κs input r left. alone)
+    -- Target::waits
+    ∷ one (whole 0 wait.Target.waits.Kinds.ps wait.Target.waits.Kinds.r wait.Target.waits.Reads.Post)
+    (λ κs (self, end). (waits self, (tt, tt)))
+    (λ κs input r left. alone)
+    -- Wait::alone
+    ∷ one (whole 0 wait.Wait.alone.Kinds.ps wait.Wait.alone.Kinds.r wait.Wait.alone.Reads.Post)
+    (λ κs (target, end). (by-itself target, (tt, tt)))
+    (λ κs input r left. alone)
+    -- Wait::none
+    ∷ one (whole 0 wait.Wait.none.Kinds.ps wait.Wait.none.Kinds.r wait.Wait.none.Reads.Post)
+    (λ κs end. (noWait, tt))
+    (λ κs input r left. alone)
+    -- Wait::of
+    ∷ one (whole 0 wait.Wait.of.Kinds.ps wait.Wait.of.Kinds.r wait.Wait.of.Reads.Post)
+    (λ κs (number, (load, end)). (waitFor number load, (tt, (tt, tt))))
+    (λ κs input r left. alone)
+    -- Wait::end, which answers nothing and stores in the array
+    ∷ one (whole 1 wait.Wait.end.Kinds.ps wait.Wait.end.Kinds.r wait.Wait.end.Reads.Post)
+    (λ κs (self, (array, (choices, end))). (tt, (tt, (endArray self choices (now array), (tt, tt)))))
     (λ κs input r left p i. (tt, (tt, (p i, left .1 .1))))
+    -- Register::taken
+    ∷ one (whole 0 register.Register.taken.Kinds.ps register.Register.taken.Kinds.r register.Register.taken.Reads.Post)
+    (λ κs (self, (target, (choices, end))). (locksTaken target choices self, (tt, (tt, (tt, tt)))))
+    (λ κs input r left. alone)
     -- Chip::standard
     ∷ one (whole 0 Chip.standard.Kinds.ps Chip.standard.Kinds.r Chip.standard.Reads.Post)
     (λ κs end. (standardChip, tt))
@@ -174,6 +201,10 @@ operations =
     -- Chip::event
     ∷ one (whole 1 Chip.event.Kinds.ps Chip.event.Kinds.r Chip.event.Reads.Post)
     (λ κs (self, (array, (event, end))). (eventAnswer event self (now array), (tt, (eventArray event self (now array), (tt, tt)))))
+    (λ κs input r left. with-array)
+    -- Chip::power_up
+    ∷ one (whole 1 Chip.power_up.Kinds.ps Chip.power_up.Kinds.r Chip.power_up.Reads.Post)
+    (λ κs (self, (array, (choices, end))). (eventAnswer (PowerUp choices) self (now array), (tt, (eventArray (PowerUp choices) self (now array), (tt, tt)))))
     (λ κs input r left. with-array)
     -- trace::event_of
     ∷ one (whole 0 trace.event_of.Kinds.ps trace.event_of.Kinds.r trace.event_of.Reads.Post)
@@ -206,6 +237,10 @@ operations =
     -- map::event
     ∷ one (whole 2 map.event.Kinds.ps map.event.Kinds.r map.event.Reads.Post)
     (λ κs (chip, (array, (m, (event, end)))). (answerOf event chip (now array) (now m), (tt, (answerArray event chip (now array) (now m), (answerMap event chip (now array) (now m), (tt, tt))))))
+    (λ κs input r left p i. (p .0 i, (tt, (p .1 .0 i, (p .1 .1 i, (tt, tt))))))
+    -- map::power_up
+    ∷ one (whole 2 map.power_up.Kinds.ps map.power_up.Kinds.r map.power_up.Reads.Post)
+    (λ κs (chip, (array, (m, (choices, end)))). (answerOf (PowerUp choices) chip (now array) (now m), (tt, (answerArray (PowerUp choices) chip (now array) (now m), (answerMap (PowerUp choices) chip (now array) (now m), (tt, tt))))))
     (λ κs input r left p i. (p .0 i, (tt, (p .1 .0 i, (p .1 .1 i, (tt, tt))))))
     -- map::run
     ∷ one (whole 4 map.run.Kinds.ps map.run.Kinds.r map.run.Reads.Post)
@@ -260,6 +295,9 @@ operations =
     -- crep_run
     ∷ by-parts (whole 4 crepulanter.crep_run.Kinds.ps crepulanter.crep_run.Kinds.r crepulanter.crep_run.Reads.Post)
     (λ κs input r r′ left left′ p q i. (both (p .returned) (q .returned) i, (both (p .state) (q .state) i, (both (p .array) (q .array) i, (tt, (both (p .answers) (q .answers) i, tt))))))
+    -- crep_power_up
+    ∷ by-parts (whole 3 crepulanter.crep_power_up.Kinds.ps crepulanter.crep_power_up.Kinds.r crepulanter.crep_power_up.Reads.Post)
+    (λ κs input r r′ left left′ p q i. (both (p .returned) (q .returned) i, (both (p .state) (q .state) i, (both (p .array) (q .array) i, (tt, (both (p .answered) (q .answered) i, tt))))))
     -- crep_recover
     ∷ by-parts (whole 3 crepulanter.crep_recover.Kinds.ps crepulanter.crep_recover.Kinds.r crepulanter.crep_recover.Reads.Post)
     (λ κs input r r′ left left′ p q i. (both (p .returned) (q .returned) i, (both (p .state) (q .state) i, (both (p .array) (q .array) i, (tt, (both (p .pulsed) (q .pulsed) i, tt))))))
@@ -286,6 +324,9 @@ operations =
     (λ κs input r r′ left left′ p q i. (both (p .returned) (q .returned) i, (tt, (both (p .found) (q .found) i, tt))))
     -- crep_map_event
     ∷ by-parts (whole 4 crepulanter.crep_map_event.Kinds.ps crepulanter.crep_map_event.Kinds.r crepulanter.crep_map_event.Reads.Post)
+    (λ κs input r r′ left left′ p q i. (both (p .returned) (q .returned) i, (both (p .state) (q .state) i, (both (p .array) (q .array) i, (both (p .map) (q .map) i, (tt, (both (p .answered) (q .answered) i, tt)))))))
+    -- crep_map_power_up
+    ∷ by-parts (whole 4 crepulanter.crep_map_power_up.Kinds.ps crepulanter.crep_map_power_up.Kinds.r crepulanter.crep_map_power_up.Reads.Post)
     (λ κs input r r′ left left′ p q i. (both (p .returned) (q .returned) i, (both (p .state) (q .state) i, (both (p .array) (q .array) i, (both (p .map) (q .map) i, (tt, (both (p .answered) (q .answered) i, tt)))))))
     -- crep_map_run
     ∷ by-parts (whole 5 crepulanter.crep_map_run.Kinds.ps crepulanter.crep_map_run.Kinds.r crepulanter.crep_map_run.Reads.Post)

@@ -1,44 +1,55 @@
 -- The sender's events on a chip that they are for: an unlocked sector then holds the record and every other byte is kept, a locked one stays; every
--- byte is acknowledged, and reading the sector gives back what the record says. Assumes nothing.
-use Prim.Native.Nat.{ℕ, _+_, _*_, _≤_, _<_}
-use mathlib.Core.Bool.{Bool, true, false, cond}
+-- byte is acknowledged, and reading the sector gives back what the record says. Cut off before its end, each byte of the sector is old or new, and every other byte is
+-- kept. Assumes nothing.
+use Prim.Native.Nat.{ℕ, zero, suc, _+_, _*_, _≤_, _<_}
+use mathlib.Core.Bool.{Bool, true, false, cond, false≢true}
 use mathlib.Core.List.{List, [], _∷_, _++_, map, append-assoc, map-append}
 use mathlib.Core.Path.{_≡_, refl, ap, ap₂, sym, subst, subst₂, _∙_}
 use native.Mathlib.Omega.{arith}
-use lib.ListN.{length, drop, replicate, getD-replicate}
-use lib.Seq.{ext-getD}
-use Rattle.parts.specs.Load.{noLoad, whole, stored}
+use lib.ListN.{length, getD, take, drop, replicate, length-append, length-map, take-append-drop}
+use lib.Seq.{ext-getD, take-append-le}
+use Rattle.parts.specs.Load.{noLoad, whole}
 use Rattle.parts.specs.Register.{withPel, withRpel}
-use Rattle.parts.specs.Sector.{sectorStart, sectorOf, Bytes}
-use Rattle.parts.specs.Rows.{stepped}
+use Rattle.parts.specs.Rows.{every}
+use Rattle.parts.specs.Sector.{sectorOf, Bytes}
+use Rattle.parts.specs.Wait.{noWait, everyPlace, chosen, stored, waitFor, endArray}
 use Rattle.parts.specs.declared.phase.Phase.the-variants.{Standby}
-use Rattle.parts.proofs.LoadLaws.{length-stored, stored-at, stored-outside}
+use Rattle.parts.specs.declared.wait.Wait.{Wait}
+use Rattle.parts.proofs.CondLaws.{and-left, and-right}
+use Rattle.parts.proofs.RowLaws.{every-on, stepped-on, stepped-each}
 use Rattle.parts.proofs.SectorLaws.{sector-length, sector-byte}
+use Rattle.parts.proofs.StoreLaws.{length-stored, stored-at, stored-outside}
+use Rattle.parts.proofs.WaitLaws.{chosen-every}
 use Rattle.chip.specs.Chip.{withTransfer, withCycle, withLevels, chipFits}
-use Rattle.chip.specs.Event.{next, nextArray, programDone, refusal}
-use Rattle.chip.specs.Run.{World, world, step, noteOf, lines, notes}
+use Rattle.chip.specs.Event.{nextArray, refusal}
+use Rattle.chip.specs.Run.{World, world, step, ran}
+use Rattle.chip.specs.View.{isSample}
 use Rattle.chip.specs.declared.chip.Chip.{Chip}
 use Rattle.chip.specs.declared.wire.Event.{Event}
-use Rattle.chip.specs.declared.wire.Event.the-variants.{ProgramDone}
-use Rattle.chip.proofs.EventLaws.{taken-so}
+use Rattle.chip.specs.declared.wire.Event.the-variants.{Sample, ProgramDone, PowerUp}
+use Rattle.chip.proofs.CutLaws.{cut-busy, cut-idle}
+use Rattle.chip.proofs.EventLaws.{taken-so, sample-array}
 use Rattle.chip.proofs.Posed.{posed}
 use Rattle.gate.specs.Reading.{readOf}
 use Rattle.trace.specs.Bytes.{eventOf, allEvents, answerLine}
+use Rattle.trace.specs.Cycles.{Still}
 use Rattle.trace.specs.Trace.{after, answersOf, ranOf, runArray, runAnswers}
 use Rattle.trace.proofs.ByteLaws.{lines-answered, notes-answered}
+use Rattle.trace.proofs.CycleLaws.{busy-still}
 use Rattle.trace.proofs.RunLaws.{run-taken, run-whole, run-answers}
 use Rattle.messages.specs.Messages.{begin, bytesSent, messageBytes, message, registerWrite}
 use Rattle.messages.specs.RandomRead.{AckAt, randomRead, held, Returns}
-use Rattle.messages.specs.Wires.{spelled, heardOf}
+use Rattle.messages.specs.Wires.{Wires, spelled, heardOf}
 use Rattle.messages.proofs.Held.{held-part}
 use Rattle.messages.proofs.RandomRead.{rested-read, read-bytes}
 use Rattle.messages.proofs.Sending.{heardSent, twice, resting}
 use Rattle.messages.proofs.Spelling.{played-pinned, bytes-length}
 use Rattle.messages.proofs.Telling.{pinned, silent, silent-all, steady-on, Plays, plays-then}
-use Rattle.messages.proofs.Writing.{heardRow, heardMessage, toldMessage, chipThen, arrayThen, pel-message, sector-message, row-acked}
+use Rattle.messages.proofs.Writing.{heardRow, heardMessage, toldMessage, chipThen, chipDone, arrayThen, pel-message, sector-message, sector-done, whole-ends, row-acked}
 use Rattle.sender.specs.Sending.{sentEvents, sendRefusal}
 use Rattle.sender.proofs.Sends.{Sendable, send-taken, sent-length, sent-events}
-use Rattle.promises.specs.Sender.{Ready, shutAt, ended, notesWith, Ends, Wrote, readBack}
+use Rattle.promises.specs.Sender.{Ready, shutAt, ended, notesWith, Ends, Wrote, cutAfter, OldOrNew, Cut, readBack}
+use Rattle.promises.specs.Sender.OldOrNew.{kept, taken}
 
 -- the bytes of the two messages
 abbrev pelRow : ℕ → List ℕ
@@ -54,13 +65,12 @@ heardAll select gate bytes = heardMessage (pelRow select) ++ heardMessage (recor
 abbrev toldAll : ℕ → ℕ → List ℕ → ℕ → List ℕ
 toldAll select gate bytes note = toldMessage (pelRow select) 3 ++ toldMessage (recordRow select gate bytes) note ++ (0 ∷ [])
 
--- the samples of the two messages, the pin low, and a program-done
+-- the samples of the two messages, the pin low
 abbrev samples : ℕ → ℕ → List ℕ → List Event
-samples select gate bytes =
-    pinned (λ k. false) (registerWrite select 0x02) ++ pinned (λ k. false) (message select (gate * 32) bytes) ++ (ProgramDone ∷ [])
+samples select gate bytes = pinned (λ k. false) (registerWrite select 0x02) ++ pinned (λ k. false) (message select (gate * 32) bytes)
 
--- they are what the event bytes stand for
-events-are : (select gate : ℕ) (bytes : List ℕ) → map eventOf (sentEvents select gate bytes) ≡ samples select gate bytes
+-- with a program-done behind them they are what the event bytes stand for
+events-are : (select gate : ℕ) (bytes : List ℕ) → map eventOf (sentEvents select gate bytes) ≡ samples select gate bytes ++ (ProgramDone ∷ [])
 unfolding sentEvents eventOf
 events-are select gate bytes =
     map-append eventOf (spelled (λ k. false) (registerWrite select 0x02 ++ message select (gate * 32) bytes)) (8 ∷ [])
@@ -75,23 +85,34 @@ ready-rests select w r i =
     (posed (withTransfer (w .chip) (sym (r .standby) i) (w .chip .counter) (w .chip .mark) (sym (r .load) i)) (sym (r .idle) i) (w .chip .scl) (w .chip .line) (sym (r .standby) i))
     (w .array)
 
--- with the cycle done it is the chip that is promised
-chip-ends : (gate : ℕ) (c : Chip) (shut : Bool) → c .register .rpel ≡ false
-    → programDone (chipThen (withCycle c (withPel (c .register) true) false) (gate * 32) shut) ≡ ended gate c
-chip-ends gate c true off = refl
-chip-ends gate c false off =
-    ap (λ (rpel : Bool). withLevels (withTransfer (withCycle c (withRpel (withPel (c .register) true) rpel) false) Standby (gate * 32) false noLoad) true true) (sym off)
+-- with PEL set
+abbrev set : Chip → Chip
+set c = withCycle c (withPel (c .register) true) false (c .wait)
 
--- the whole run, at the chip's own select
-run : (gate : ℕ) (bytes : List ℕ) → gate ≤ 511 → length bytes ≡ 32 → Bytes bytes → (c : Chip) (xs : List ℕ) (scl line shut : Bool) → c .select ≤ 7 → c .register .rpel ≡ false → shutAt gate c ≡ shut
-    → Plays (resting c xs (c .counter) (c .mark) scl line) (samples (c .select) gate bytes)
-    (heardAll (c .select) gate bytes) (toldAll (c .select) gate bytes (cond shut 4 1)) (world (ended gate c) (arrayThen xs (gate * 32) bytes shut))
-unfolding stepped lines notes noteOf step next nextArray
-run gate bytes gate-in sized byte-wide c xs scl line shut select-in off e =
-    plays-then
-    (plays-then (pel-message c xs (c .counter) (c .mark) scl line false select-in off)
-    (sector-message (withCycle c (withPel (c .register) true) false) xs 0x0000 false true true false shut gate bytes select-in refl gate-in sized byte-wide e))
-    (record { ends = ap (λ (d : Chip). world d (arrayThen xs (gate * 32) bytes shut)) (chip-ends gate c shut off); hears = refl; tells = refl })
+-- with the cycle done it is the chip that is promised
+chip-ends : (gate : ℕ) (c : Chip) (shut : Bool) → c .register .rpel ≡ false → shutAt gate c ≡ shut → chipDone (set c) gate shut ≡ ended gate c
+chip-ends gate c true off e = rw e
+chip-ends gate c false off e =
+    rw e
+    (ap (λ (rpel : Bool). withLevels (withTransfer (withCycle c (withRpel (withPel (c .register) true) rpel) false noWait) Standby (gate * 32) false noLoad) true true) (sym off))
+
+module _ (gate : ℕ) (bytes : List ℕ) (gate-in : gate ≤ 511) (sized : length bytes ≡ 32) (byte-wide : Bytes bytes) (c : Chip) (xs : List ℕ) (scl line shut : Bool)
+    (select-in : c .select ≤ 7) (off : c .register .rpel ≡ false) (e : shutAt gate c ≡ shut) where
+  -- the samples, at the chip's own select: the record waits, or the sector is locked
+  run-samples : Plays (resting c xs (c .counter) (c .mark) scl line) (samples (c .select) gate bytes)
+      (heardMessage (pelRow (c .select)) ++ heardMessage (recordRow (c .select) gate bytes)) (toldMessage (pelRow (c .select)) 3 ++ toldMessage (recordRow (c .select) gate bytes) (cond shut 4 1))
+      (world (chipThen (set c) gate bytes shut) xs)
+  run-samples =
+      plays-then (pel-message c xs (c .counter) (c .mark) scl line false select-in off)
+      (sector-message (set c) xs 0x0000 false true true false shut gate bytes select-in refl gate-in sized byte-wide e)
+
+  -- the whole run
+  run : Plays (resting c xs (c .counter) (c .mark) scl line) (samples (c .select) gate bytes ++ (ProgramDone ∷ []))
+      (heardAll (c .select) gate bytes) (toldAll (c .select) gate bytes (cond shut 4 1)) (world (ended gate c) (arrayThen xs gate bytes everyPlace shut))
+  run =
+      plays-then run-samples
+      (subst (λ (d : Chip). Plays (world (chipThen (set c) gate bytes shut) xs) (ProgramDone ∷ []) (true ∷ []) (0 ∷ []) (world d (arrayThen xs gate bytes everyPlace shut)))
+      (chip-ends gate c shut off e) (sector-done (set c) xs gate bytes sized shut))
 
 -- the notes are those that were promised
 notes-come : (select gate : ℕ) (bytes : List ℕ) (note : ℕ) → length bytes ≡ 32 → toldAll select gate bytes note ≡ notesWith note
@@ -118,32 +139,75 @@ acks-written select gate bytes sized k h =
     (sym (append-assoc (heardRow bytes) (false ∷ false ∷ true ∷ []) (true ∷ [])))
     (row-acked (heardMessage (pelRow select) ++ (true ∷ false ∷ [])) (recordRow select gate bytes) (false ∷ false ∷ true ∷ true ∷ []) k (rw sized h))
 
--- a whole load stored in the sector of a gate is the record there, and nothing beside it
-pub wrote : (gate : ℕ) (bytes xs : List ℕ) → gate ≤ 511 → length bytes ≡ 32 → length xs ≡ 16384 → Wrote gate bytes xs (stored xs (gate * 32) (whole bytes))
+-- 32 bytes stored in the sector of a gate are the record there, and nothing beside it
+pub wrote : (gate : ℕ) (bytes xs : List ℕ) → gate ≤ 511 → length bytes ≡ 32 → length xs ≡ 16384 → Wrote gate bytes xs (stored xs (gate * 32) (chosen everyPlace) bytes)
 wrote gate bytes xs gate-in sized all =
     record {
-      sized = length-stored xs (gate * 32) (whole bytes);
+      sized = length-stored xs (gate * 32) (chosen everyPlace) bytes;
       sector =
           ext-getD 0 (sectorOf gate ys) bytes (long ∙ sym sized)
           (λ k h. let inside : k < 32 = rw long at h in
-          sector-byte gate ys k inside ∙ stored-at xs (gate * 32) (whole bytes) k inside (omega arith) ∙ (rw (getD-replicate 32 k true false inside)));
-      others = λ a apart. rw start at (stored-outside xs (gate * 32) (whole bytes) a (rw start apart));
+          sector-byte gate ys k inside ∙ stored-at xs (gate * 32) (chosen everyPlace) bytes k inside (omega arith) ∙ (rw (chosen-every k)));
+      others = λ a apart. stored-outside xs gate (chosen everyPlace) bytes a (λ here. apart (omega arith));
     }
   where
     ys : List ℕ
-    ys = stored xs (gate * 32) (whole bytes)
-
-    start : sectorStart (gate * 32) ≡ gate * 32
-    start = omega arith
+    ys = stored xs (gate * 32) (chosen everyPlace) bytes
 
     long : length (sectorOf gate ys) ≡ 32
-    long = sector-length gate ys (omega (arith, length-stored xs (gate * 32) (whole bytes)))
+    long = sector-length gate ys (omega (arith, length-stored xs (gate * 32) (chosen everyPlace) bytes))
+
+-- stored by any choices they leave each byte of the sector old or new
+cut-stored : (gate : ℕ) (bytes xs : List ℕ) (choices : ℕ) → gate ≤ 511 → length xs ≡ 16384 → Cut gate bytes xs (stored xs (gate * 32) (chosen choices) bytes)
+cut-stored gate bytes xs choices gate-in all =
+    record {
+      sized = length-stored xs (gate * 32) (chosen choices) bytes;
+      sector = λ k h. by-choice k (chosen choices k) (stored-at xs (gate * 32) (chosen choices) bytes k h (omega arith));
+      others = λ a apart. stored-outside xs gate (chosen choices) bytes a (λ here. apart (omega arith));
+    }
+  where
+    by-choice : (k : ℕ) (on : Bool) {byte : ℕ} → byte ≡ cond on (getD bytes k 0) (getD xs (gate * 32 + k) 0) → OldOrNew (getD xs (gate * 32 + k) 0) (getD bytes k 0) byte
+    by-choice k true e = taken e
+    by-choice k false e = kept e
+
+-- and so does an array that is kept
+cut-kept : (gate : ℕ) (bytes xs : List ℕ) → Cut gate bytes xs xs
+cut-kept gate bytes xs = record { sized = refl; sector = λ k h. kept refl; others = λ a apart. refl }
+
+-- wires with the pin at one level are samples
+pinned-samples : (pins : ℕ → Bool) (wires : List Wires) → every isSample (pinned pins wires) ≡ true
+unfolding pinned every isSample
+pinned-samples pins [] = refl
+pinned-samples pins (w ∷ rest) = pinned-samples (λ k. pins (suc k)) rest
+
+-- two rows that are one pass where it does
+every-parts : (first second : List Event) → every isSample (first ++ second) ≡ true → (every isSample first ≡ true) × (every isSample second ≡ true)
+unfolding every
+every-parts [] second h = (refl, h)
+every-parts (e ∷ first) second h =
+    let rest = every-parts first second (and-right (isSample e) (every isSample (first ++ second)) h) in
+    (rw (and-left (isSample e) (every isSample (first ++ second)) h) (rest .0), rest .1)
+
+-- a row of samples writes no byte
+samples-write : (es : List Event) (w : World) → every isSample es ≡ true → ran es w .array ≡ w .array
+samples-write es w h = stepped-each step isSample (λ v. v .array ≡ w .array) (λ e v s same. one e v s ∙ same) es w h refl
+  where
+    one : (e : Event) (v : World) → isSample e ≡ true → step e v .array ≡ v .array
+    one (Sample s) v h = unfold step in sample-array s (v .chip) (v .array)
+    one ProgramDone v h = absurd (false≢true (unfold isSample in h))
+    one (PowerUp choices) v h = absurd (false≢true (unfold isSample in h))
+
+-- the events of the first bytes are the first events
+map-take : (n : ℕ) (bytes : List ℕ) → map eventOf (take n bytes) ≡ take n (map eventOf bytes)
+map-take zero bytes = refl
+map-take (suc n) [] = refl
+map-take (suc n) (byte ∷ bytes) = ap (λ (es : List Event). eventOf byte ∷ es) (map-take n bytes)
 
 -- For every record that is not refused, and every chip that the events are for
-module _ (gate : ℕ) (bytes : List ℕ) (select room : ℕ) (taken : sendRefusal gate bytes select room ≡ 0) (byte-wide : Bytes bytes) (w : World) (ready : Ready select w) where
+module _ (gate : ℕ) (bytes : List ℕ) (select room : ℕ) (accepted : sendRefusal gate bytes select room ≡ 0) (byte-wide : Bytes bytes) (w : World) (ready : Ready select w) where
   -- what was given
   given : Sendable gate bytes select room
-  given = send-taken gate bytes select room taken
+  given = send-taken gate bytes select room accepted
 
   -- what the events leave, and what a trace of them answers
   abbrev left : World
@@ -154,7 +218,7 @@ module _ (gate : ℕ) (bytes : List ℕ) (select room : ℕ) (taken : sendRefusa
 
   -- the chip and the array that they leave, by whether the sector is locked
   abbrev last : Bool → World
-  last shut = world (ended gate (w .chip)) (arrayThen (w .array) (gate * 32) bytes shut)
+  last shut = world (ended gate (w .chip)) (arrayThen (w .array) gate bytes everyPlace shut)
 
   -- the run from that chip
   runs : (shut : Bool) → shutAt gate (w .chip) ≡ shut
@@ -188,14 +252,14 @@ module _ (gate : ℕ) (bytes : List ℕ) (select room : ℕ) (taken : sendRefusa
       × (runAnswers (w .chip) (w .array) (sentEvents select gate bytes) old ≡ answers ++ drop 713 old))
   sent-run fits old room =
       let sized : length (sentEvents select gate bytes) ≡ 713 = sent-length select gate bytes (given .sized) in
-      let accepted : refusal (w .chip) (w .array) ≡ 0 = taken-so (w .chip) (w .array) (ready .whole) fits in
+      let whole-chip : refusal (w .chip) (w .array) ≡ 0 = taken-so (w .chip) (w .array) (ready .whole) fits in
       let few : length (sentEvents select gate bytes) ≤ 65536 = omega arith in
       let enough : length (sentEvents select gate bytes) ≤ length old = omega arith in
       let all : allEvents (sentEvents select gate bytes) ≡ true = sent-events select gate bytes (given .sized) in (
-        run-taken (w .chip) (w .array) (sentEvents select gate bytes) old accepted few enough all,
+        run-taken (w .chip) (w .array) (sentEvents select gate bytes) old whole-chip few enough all,
         (
-          run-whole (w .chip) (w .array) (sentEvents select gate bytes) old accepted few enough all,
-          run-answers (w .chip) (w .array) (sentEvents select gate bytes) old accepted few enough all ∙ ap (λ (n : ℕ). answers ++ drop n old) sized,
+          run-whole (w .chip) (w .array) (sentEvents select gate bytes) old whole-chip few enough all,
+          run-answers (w .chip) (w .array) (sentEvents select gate bytes) old whole-chip few enough all ∙ ap (λ (n : ℕ). answers ++ drop n old) sized,
         ),
       )
 
@@ -210,7 +274,79 @@ module _ (gate : ℕ) (bytes : List ℕ) (select room : ℕ) (taken : sendRefusa
 
       by-test : (shut : Bool) → shutAt gate (w .chip) ≡ shut → Ready select left
       by-test true e = again (w .array) (ready .whole) (leaves true e)
-      by-test false e = again (last false .array) (length-stored (w .array) (gate * 32) (whole bytes) ∙ ready .whole) (leaves false e)
+      by-test false e = again (last false .array) (length-stored (w .array) (gate * 32) (chosen everyPlace) bytes ∙ ready .whole) (leaves false e)
+
+  -- the samples alone
+  abbrev front : List Event
+  front = samples select gate bytes
+
+  front-samples : every isSample front ≡ true
+  front-samples =
+      every-on isSample (pinned (λ k. false) (registerWrite select 0x02)) (pinned (λ k. false) (message select (gate * 32) bytes))
+      (pinned-samples (λ k. false) (registerWrite select 0x02)) (pinned-samples (λ k. false) (message select (gate * 32) bytes))
+
+  -- they leave the chip with the record waiting, or idle where the sector is locked
+  front-ends : (shut : Bool) → shutAt gate (w .chip) ≡ shut → ran front w ≡ world (chipThen (set (w .chip)) gate bytes shut) (w .array)
+  front-ends shut e =
+      subst₂ (λ (v : World) (s : ℕ). ran (samples s gate bytes) v ≡ world (chipThen (set (w .chip)) gate bytes shut) (w .array)) (ready-rests select w ready) (ready .selected)
+      (run-samples gate bytes (given .gate-in) (given .sized) byte-wide (w .chip) (w .array) (w .chip .scl) (w .chip .line) shut (rw (ready .selected) (given .select-in)) (ready .rpel) e .ends)
+
+  -- at a point before the program-done
+  module _ (n : ℕ) (early : n < 713) where
+    abbrev sofar : List Event
+    sofar = take n front
+
+    abbrev there : World
+    there = ran sofar w
+
+    -- the events so far are samples
+    there-is : after (take n (sentEvents select gate bytes)) w ≡ there
+    unfolding after
+    there-is =
+        let all : length (front ++ (ProgramDone ∷ [])) ≡ 713 = ap length (sym (events-are select gate bytes)) ∙ length-map (sentEvents select gate bytes) eventOf ∙ sent-length select gate bytes (given .sized) in
+        let most : n ≤ length front = omega (arith, length-append front (ProgramDone ∷ [])) in
+        ap (λ (es : List Event). ran es w) (map-take n (sentEvents select gate bytes) ∙ ap (take n) (events-are select gate bytes) ∙ take-append-le n front (ProgramDone ∷ []) most)
+
+    parts : (every isSample sofar ≡ true) × (every isSample (drop n front) ≡ true)
+    parts = every-parts sofar (drop n front) (ap (every isSample) (take-append-drop n front) ∙ front-samples)
+
+    -- the rest leads to the end of the samples
+    rest-leads : ran (drop n front) there ≡ ran front w
+    rest-leads = sym (stepped-on step sofar (drop n front) w) ∙ ap (λ (es : List Event). ran es w) (take-append-drop n front)
+
+    -- in a cycle then, what waits is what waits at that end, and the sector is not locked
+    there-busy : there .chip .busy ≡ true → (shut : Bool) → shutAt gate (w .chip) ≡ shut → there .chip .wait ≡ waitFor gate (whole bytes)
+    there-busy busy shut e =
+        let still : Still (drop n front) there = busy-still (drop n front) there (parts .1) busy in
+        let end : ran (drop n front) there ≡ world (chipThen (set (w .chip)) gate bytes shut) (w .array) = rest-leads ∙ front-ends shut e in
+        go shut (sym (still .waiting) ∙ ap (λ (v : World). v .chip .wait) end) (sym (still .busy) ∙ ap (λ (v : World). v .chip .busy) end)
+      where
+        go : (shut : Bool) → there .chip .wait ≡ chipThen (set (w .chip)) gate bytes shut .wait → true ≡ chipThen (set (w .chip)) gate bytes shut .busy → there .chip .wait ≡ waitFor gate (whole bytes)
+        go true waiting b = absurd (false≢true (sym b))
+        go false waiting b = waiting
+
+    -- Cut off there by a power-up with any choices: each byte of the sector is the old one or the record's, and every other byte is kept
+    pub sent-cut : (choices : ℕ) → Cut gate bytes (w .array) (cutAfter n choices select gate bytes w .array)
+    sent-cut choices =
+        subst (λ (v : World). Cut gate bytes (w .array) (step (PowerUp choices) v .array)) (sym there-is)
+        (subst (Cut gate bytes (w .array)) (sym (by-test (there .chip .busy) refl .0)) (by-test (there .chip .busy) refl .1))
+      where
+        same : there .array ≡ w .array
+        same = samples-write sofar w (parts .0)
+
+        -- the array that is left, whichever it is
+        Left : Bool → Type 0
+        Left busy = (step (PowerUp choices) there .array ≡ cond busy (stored (w .array) (gate * 32) (chosen choices) bytes) (w .array)) × Cut gate bytes (w .array) (cond busy (stored (w .array) (gate * 32) (chosen choices) bytes) (w .array))
+
+        by-test : (busy : Bool) → there .chip .busy ≡ busy → Left busy
+        by-test true b = (
+          (unfold step nextArray in
+              cut-busy choices (there .chip) (there .array) b
+              ∙ ap₂ (λ (u : Wait) (xs : List ℕ). endArray u choices xs) (there-busy b (shutAt gate (w .chip)) refl) same
+              ∙ whole-ends gate bytes choices (w .array) (given .sized)),
+          cut-stored gate bytes (w .array) choices (given .gate-in) (ready .whole),
+        )
+        by-test false b = ((unfold step nextArray in cut-idle choices (there .chip) (there .array) b ∙ same), cut-kept gate bytes (w .array))
 
   -- A locked sector stays, and so does every other byte, with note 4
   pub sent-locked : shutAt gate (w .chip) ≡ true → Ends 4 gate w left answers × (left .array ≡ w .array)

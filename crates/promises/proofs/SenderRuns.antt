@@ -2,21 +2,23 @@
 -- and a run with RPEL 1 that loses PPEN and BL. Assumes nothing.
 use Prim.Native.Nat.{ℕ}
 use mathlib.Core.Bool.{Bool, true}
-use mathlib.Core.List.{List}
+use mathlib.Core.List.{List, _++_}
 use mathlib.Core.Path.{_≡_, refl}
 use native.Mathlib.Omega.{arith}
 use lib.IntN.{pos}
-use lib.ListN.{length, length-replicate}
+use lib.Dec.{T}
+use lib.ListN.{length, take, replicate, length-replicate}
 use Rattle.parts.specs.Load.{loaded}
 use Rattle.parts.specs.Locks.{firstLocked}
 use Rattle.parts.specs.Phase.{risen, phasePulls}
 use Rattle.parts.specs.Register.{written, latchWritten, lockWritten}
 use Rattle.parts.specs.Rows.{stepped}
 use Rattle.parts.specs.Sector.{Bytes, erased}
-use Rattle.chip.specs.Chip.{pulls, atPowerUp}
-use Rattle.chip.specs.Event.{next, nextArray, sampled, judged, judgedArray, reacted, reactedArray}
+use Rattle.parts.specs.Wait.{waits, storedTo, reached, locksTaken}
+use Rattle.chip.specs.Chip.{pulls, cutRegister, cutArray, atPowerUp}
+use Rattle.chip.specs.Event.{next, nextArray, programDone, sampled, judged, reacted}
 use Rattle.chip.specs.Run.{world, step, noteOf, notes}
-use Rattle.chip.specs.Stop.{stopEffect, rightEffect, arrayEffect, rightly, effectMoved, effectArray}
+use Rattle.chip.specs.Stop.{stopEffect, rightEffect, arrayEffect, rightly, effectMoved}
 use Rattle.chip.specs.Transfer.{fallIn, slaveTaken, addressTaken, arrayData, registerData}
 use Rattle.chip.specs.Wire.{edgeOf}
 use Rattle.gate.specs.Form.{recordOf}
@@ -31,9 +33,9 @@ use Rattle.trace.specs.Bytes.{eventOf}
 use Rattle.trace.specs.Trace.{after}
 use Rattle.sender.specs.Sending.{sentEvents, sendRefusal}
 use Rattle.sender.proofs.Sends.{written-sent}
-use Rattle.promises.specs.Cases.{buffer, north}
+use Rattle.promises.specs.Cases.{buffer, north, agree}
 use Rattle.promises.specs.Sender.{Ready, Wrote}
-use Rattle.promises.specs.SenderRuns.{northRecord, north17, up, armed, Unlocks}
+use Rattle.promises.specs.SenderRuns.{northRecord, north17, up, halfway, armed, Unlocks}
 use Rattle.promises.proofs.Sender.{sent-stored, sent-locked}
 
 -- A chip of any part, select, PPEN, BL and spoil byte is ready after a power-up, over any whole array
@@ -70,9 +72,14 @@ north-locked = (
   sent-locked 17 northRecord 5 713 north-sent north-bytes (up 1 3) (up-ready 1 5 true 3 0x00 erased whole) refl .1,
 )
 
+-- Cut off behind the last STOP, the first half of the record stands before FFh: on both parts
+pub north-cut : T (agree (halfway 0) (take 16 northRecord ++ replicate 16 0xff)) × T (agree (halfway 1) (take 16 northRecord ++ replicate 16 0xff))
+unfolding stepped eventOf spelled noteOf step next nextArray programDone cutRegister cutArray waits reached storedTo locksTaken sampled judged reacted edgeOf pulls phasePulls risen fallIn slaveTaken addressTaken arrayData registerData stopEffect rightEffect arrayEffect rightly effectMoved firstLocked written latchWritten lockWritten loaded clocks byteSent after sentEvents writtenOf writeOf recordOf bits16 inRange same labelByte
+north-cut = (tt, tt)
+
 -- So RPEL has to be clear: on both parts
 pub rpel-needed : Unlocks (armed 0) × Unlocks (armed 1)
-unfolding stepped eventOf spelled notes noteOf step next nextArray sampled judged judgedArray reacted reactedArray edgeOf pulls phasePulls risen fallIn slaveTaken addressTaken arrayData registerData stopEffect rightEffect arrayEffect rightly effectMoved effectArray firstLocked written latchWritten lockWritten loaded clocks byteSent after sentEvents writtenOf writeOf recordOf bits16 inRange same labelByte
+unfolding stepped eventOf spelled notes noteOf step next nextArray programDone cutRegister cutArray waits reached locksTaken sampled judged reacted edgeOf pulls phasePulls risen fallIn slaveTaken addressTaken arrayData registerData stopEffect rightEffect arrayEffect rightly effectMoved firstLocked written latchWritten lockWritten loaded clocks byteSent after sentEvents writtenOf writeOf recordOf bits16 inRange same labelByte
 rpel-needed = (
   record { rpel-before = refl; ppen-before = refl; bl-before = refl; ppen-after = refl; bl-after = refl; told = refl },
   record { rpel-before = refl; ppen-before = refl; bl-before = refl; ppen-after = refl; bl-after = refl; told = refl },

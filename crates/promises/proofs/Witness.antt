@@ -1,34 +1,37 @@
--- Demand 3 speaks of something, and what it takes is needed: on either part a concrete run that meets all of it, and two that fail one
+-- Demand 3 speaks of something, and what it takes is needed: on either part a concrete run that meets all of it, and three that fail one
 -- hypothesis each and lose a locked byte. Assumes nothing.
 use Prim.Native.Nat.{ℕ, zero, suc, _+_, _%_, _≤_}
 use mathlib.Core.Bool.{true, false}
-use mathlib.Core.List.{List, [], _∷_}
-use mathlib.Core.Path.{_≡_, refl, _∙_}
+use mathlib.Core.List.{List, [], _∷_, _++_}
+use mathlib.Core.Path.{_≡_, refl, subst, _∙_}
 use native.Mathlib.Omega.{arith}
 use lib.Dec.{leb·zero}
 use lib.ListN.{length, length-set, length-replicate, set}
-use Rattle.parts.specs.Load.{loaded, storedTo}
+use Rattle.parts.specs.Load.{loaded}
 use Rattle.parts.specs.Locks.{firstLocked}
 use Rattle.parts.specs.Phase.{risen, phasePulls}
 use Rattle.parts.specs.Register.{written, latchWritten, lockWritten}
 use Rattle.parts.specs.Rows.{every, stepped}
 use Rattle.parts.specs.Sector.{Bytes, erased}
+use Rattle.parts.specs.Wait.{storedTo, waits, reached, locksTaken}
 use Rattle.parts.proofs.ByteLaws.{set-bytes, same-bytes}
-use Rattle.chip.specs.Chip.{pulls}
-use Rattle.chip.specs.Event.{next, nextArray, sampled, judged, judgedArray, reacted, reactedArray}
-use Rattle.chip.specs.Run.{step, noteOf}
-use Rattle.chip.specs.Stop.{stopEffect, rightEffect, arrayEffect, rightly, effectMoved, effectArray}
+use Rattle.parts.proofs.RowLaws.{stepped-on}
+use Rattle.chip.specs.Chip.{newChip, pulls, cutRegister, cutArray}
+use Rattle.chip.specs.Event.{next, nextArray, programDone, sampled, judged, reacted}
+use Rattle.chip.specs.Run.{world, step, noteOf, ran}
+use Rattle.chip.specs.Stop.{stopEffect, rightEffect, arrayEffect, rightly, effectMoved}
 use Rattle.chip.specs.Transfer.{fallIn, slaveTaken, addressTaken, arrayData, registerData, byteBegun, byteEnded}
 use Rattle.chip.specs.View.{pinHigh, pinsHigh}
 use Rattle.chip.specs.Wire.{edgeOf}
+use Rattle.chip.specs.declared.wire.Event.{Event}
 use Rattle.trace.specs.Bytes.{eventOf}
 use Rattle.trace.specs.Trace.{answersOf}
 use Rattle.recovery.specs.Recovery.{pulse, pulsed, recovered}
 use Rattle.promises.specs.Demand3.{FromPowerUp, free, heard, Protected, Promised}
-use Rattle.messages.specs.Messages.{byteSent}
+use Rattle.messages.specs.Messages.{byteSent, registerWrite}
 use Rattle.messages.specs.RandomRead.{byteTaken, bytesTaken, randomRead, highs, bitsIn, held, bytesRead}
-use Rattle.messages.specs.Wires.{spelled, clocks, byteOf}
-use Rattle.promises.specs.Runs.{high, lowAtStop, registerSet, attack, cutRead, edged, registered, protected, unprotected, withstood, attacked, struck, lows, Lost}
+use Rattle.messages.specs.Wires.{spelled, played, clocks, byteOf}
+use Rattle.promises.specs.Runs.{high, lowAtStop, registerSet, attack, cutRead, edged, registered, protected, unprotected, unlocking, withstood, attacked, strike, struck, struckLater, lows, Lost}
 use Rattle.promises.proofs.Demand3.{demand-3}
 
 -- the random read of two bytes from 3FFFh at select 5, as event bytes with the pin low: slave byte AAh, 3Fh, FFh, the restart, ABh, two bytes
@@ -45,6 +48,7 @@ read-spelled = refl
 
 -- what is computed of the runs
 record Computed (part : ℕ) : Type 0 where
+  idle : protected part .chip .busy ≡ false
   ppen : protected part .chip .register .ppen ≡ true
   bl : protected part .chip .register .bl ≡ 3
   first : firstLocked (protected part .chip .part) (protected part .chip .register .bl) ≡ 0
@@ -56,12 +60,17 @@ record Computed (part : ℕ) : Type 0 where
   no-ppen-lost : Lost (attacked high) (unprotected part) 0x00 (struck part)
   low-pins : lows (attacked lowAtStop .noise) ≡ 1
   low-lost : Lost (attacked lowAtStop) (protected part) 0x00 (struck part)
+  cycle : unlocking part .chip .busy ≡ true
+  cycle-ppen : unlocking part .chip .register .ppen ≡ true
+  later-pins : pinsHigh (struckLater .noise) ≡ true
+  later-lost : Lost struckLater (unlocking part) 0x00 (struck part)
 
 -- all of it at once, for each part
 computed : (part : ℕ) → part ≤ 1 → Computed part
-unfolding stepped answersOf eventOf spelled noteOf step next nextArray sampled judged judgedArray reacted reactedArray edgeOf pulls phasePulls risen fallIn slaveTaken addressTaken arrayData registerData byteBegun byteEnded stopEffect rightEffect arrayEffect rightly effectMoved effectArray firstLocked written latchWritten lockWritten loaded storedTo clocks byteSent byteTaken bytesTaken randomRead highs bitsIn byteOf held every pinHigh pulse pulsed recovered registerSet attack cutRead edged lows
+unfolding stepped answersOf eventOf spelled noteOf step next nextArray programDone cutRegister cutArray waits reached locksTaken sampled judged reacted edgeOf pulls phasePulls risen fallIn slaveTaken addressTaken arrayData registerData byteBegun byteEnded stopEffect rightEffect arrayEffect rightly effectMoved firstLocked written latchWritten lockWritten loaded storedTo clocks byteSent byteTaken bytesTaken randomRead highs bitsIn byteOf held every pinHigh pulse pulsed recovered registerSet strike attack cutRead edged unlocking lows
 computed zero h =
     record {
+      idle = refl;
       ppen = refl;
       bl = refl;
       first = refl;
@@ -73,9 +82,14 @@ computed zero h =
       no-ppen-lost = record { locked-before = refl; held-before = refl; read-after = refl };
       low-pins = refl;
       low-lost = record { locked-before = refl; held-before = refl; read-after = refl };
+      cycle = refl;
+      cycle-ppen = refl;
+      later-pins = refl;
+      later-lost = record { locked-before = refl; held-before = refl; read-after = refl };
     }
 computed (suc zero) h =
     record {
+      idle = refl;
       ppen = refl;
       bl = refl;
       first = refl;
@@ -87,6 +101,10 @@ computed (suc zero) h =
       no-ppen-lost = record { locked-before = refl; held-before = refl; read-after = refl };
       low-pins = refl;
       low-lost = record { locked-before = refl; held-before = refl; read-after = refl };
+      cycle = refl;
+      cycle-ppen = refl;
+      later-pins = refl;
+      later-lost = record { locked-before = refl; held-before = refl; read-after = refl };
     }
 computed (suc (suc part)) h = absurd (omega arith)
 
@@ -105,9 +123,9 @@ edged-bytes =
     (set-bytes (erased) 0x0000 0x00 (same-bytes 0x4000 0xff (omega arith)) (omega arith))
     (omega arith)
 
--- a chip with any register byte is one run from power-up
-registered-up : (part byte : ℕ) → part ≤ 1 → FromPowerUp (registered part byte)
-registered-up part byte h =
+-- a new chip after any events is one run from power-up
+ran-up : (part : ℕ) → part ≤ 1 → (es : List Event) → FromPowerUp (ran es (world (newChip part 5) edged))
+ran-up part h es =
     record {
       part = part;
       select = 5;
@@ -115,7 +133,7 @@ registered-up part byte h =
       bl = 0;
       spoil = 0xff;
       array = edged;
-      run = registerSet 5 high byte;
+      run = es;
       part-in = h;
       select-in = omega arith;
       bl-in = omega arith;
@@ -125,12 +143,24 @@ registered-up part byte h =
       after-run = refl;
     }
 
+-- so is one with any register byte
+registered-up : (part byte : ℕ) → part ≤ 1 → FromPowerUp (registered part byte)
+registered-up part byte h = ran-up part h (registerSet 5 high byte)
+
+-- and the one whose cycle will unlock it
+unlocking-up : (part : ℕ) → part ≤ 1 → FromPowerUp (unlocking part)
+unfolding unlocking
+unlocking-up part h =
+    subst FromPowerUp (stepped-on step (registerSet 5 high 0x9a) (played high (registerWrite 5 0x06) ++ played lowAtStop (registerWrite 5 0x02)) (world (newChip part 5) edged))
+    (ran-up part h (registerSet 5 high 0x9a ++ (played high (registerWrite 5 0x06) ++ played lowAtStop (registerWrite 5 0x02))))
+
 module _ (part : ℕ) (h : part ≤ 1) where
   -- the attack that is withstood meets all that demand 3 takes
   pub witness : FromPowerUp (protected part) × Protected withstood (protected part)
   witness = (
     registered-up part 0x9a h,
     record {
+      idle = computed part h .idle;
       ppen-set = computed part h .ppen;
       region-locked = λ e. absurd (omega (arith, computed part h .bl));
       pin-high = computed part h .pins;
@@ -160,3 +190,11 @@ module _ (part : ℕ) (h : part ≤ 1) where
       × (lows (attacked lowAtStop .noise) ≡ 1)
       × Lost (attacked lowAtStop) (protected part) 0x00 (struck part)
   pin-needed = (registered-up part 0x9a h, computed part h .ppen, computed part h .low-pins, computed part h .low-lost)
+
+  -- with a cycle in progress for which PPEN 0 and BL 0 wait a locked byte is lost, though PPEN is set and the pin is high in every sample
+  pub idle-needed : FromPowerUp (unlocking part)
+      × (unlocking part .chip .busy ≡ true)
+      × (unlocking part .chip .register .ppen ≡ true)
+      × (pinsHigh (struckLater .noise) ≡ true)
+      × Lost struckLater (unlocking part) 0x00 (struck part)
+  idle-needed = (unlocking-up part h, computed part h .cycle, computed part h .cycle-ppen, computed part h .later-pins, computed part h .later-lost)

@@ -13,6 +13,7 @@
 -- | `pelSet`, `locking byte` | the same with PEL set; the same with PPEN and BL written, the cycle done |
 -- | `changes` | the addresses at which two arrays differ |
 -- | `buffer`, `north`, `travelled` | a free record as a buffer; the label of case 4; the travel that a written record is read with |
+-- | `stored wires` | what a message leaves once its cycle is done |
 -- | `zeroed spoil`, `leaves` | an X24F128 with this spoil byte over an array of 00h; what so many bytes at 0000h have it say, and leave |
 -- | `begins` | a lock begins at an address |
 -- | `hung`, `pulsesOf` | a chip stopped in an acknowledge; the pulses that recovery reports |
@@ -28,6 +29,7 @@ use lib.ListN.{take, drop, set, replicate}
 use Rattle.parts.specs.Locks.{locked}
 use Rattle.parts.specs.Register.{registerByte}
 use Rattle.parts.specs.Sector.{erased}
+use Rattle.parts.specs.Wait.{everyPlace}
 use Rattle.chip.specs.Chip.{withSpoil, newChip}
 use Rattle.chip.specs.Run.{World, world, step, ran, notes}
 use Rattle.chip.specs.declared.wire.Event.{Event}
@@ -156,10 +158,14 @@ case-5 =
     eqb (writeOf buffer (pos 0) (pos 1200) (replicate 24 0x41)) 0
     && eqb (writeOf buffer (pos 0) (pos 1200) (replicate 25 0x41)) 8
 
--- 6. X24128, unlocked, PEL 1, 27 bytes at 0006h: bytes 6-31 and byte 0 change, and no other of the array; they are the 27; counter 0001h
+-- T-05: a cycle reaches the array at its program-done
+abbrev pub stored : List Wires → World → World
+stored wires w = step ProgramDone (sent wires w)
+
+-- 6. X24128, unlocked, PEL 1, 27 bytes at 0006h and a program-done: bytes 6-31 and byte 0 change, and no other of the array; they are the 27; counter 0001h
 abbrev pub case-6 : Bool
 case-6 =
-    let after : World = sent (message 0 0x0006 (upFrom 27 1)) (pelSet (fresh 0)) in
+    let after : World = stored (message 0 0x0006 (upFrom 27 1)) (pelSet (fresh 0)) in
     agree (changes erased (after .array)) (0 ∷ upFrom 26 6)
     && agree (take 32 (after .array)) (27 ∷ replicate 5 0xff ++ upFrom 26 1)
     && eqb (after .chip .counter) 0x0001
@@ -168,13 +174,13 @@ case-6 =
 abbrev pub zeroed : ℕ → World
 zeroed spoil = pelSet (world (withSpoil (newChip 1 0) spoil) (replicate 16384 0x00))
 
--- so many bytes at 0000h: their note, and what the sector holds then; each of its bytes changes, and no other of the array
+-- so many bytes at 0000h and a program-done: their note, and what the sector holds then; each of its bytes changes, and no other of the array
 abbrev pub leaves : ℕ → World → ℕ → List ℕ → Bool
 leaves n w note sector =
     let bytes : List Wires = message 0 0x0000 (upFrom n 1) in
     agree (told bytes w) (note ∷ [])
-    && agree (changes (w .array) (sent bytes w .array)) (upFrom 32 0)
-    && agree (take 32 (sent bytes w .array)) sector
+    && agree (changes (w .array) (stored bytes w .array)) (upFrom 32 0)
+    && agree (take 32 (stored bytes w .array)) sector
 
 -- 7. X24F128: 31 bytes note 5, 32 note 1, 33 note 5; 31 and 33 leave 32 spoil bytes, 32 leave the load
 abbrev pub case-7 : Bool
@@ -249,11 +255,11 @@ error-1 =
 
 -- M2: A STOP taken as rightly placed only with no bit received, so no write ever ends: case 13, 78 events and note 3 at event 77
 abbrev pub error-2 : Bool
-error-2 = agree (notes (PowerUp ∷ samples false (registerWrite 0 0x02)) (fresh 0)) (replicate 77 0 ++ (3 ∷ []))
+error-2 = agree (notes (PowerUp everyPlace ∷ samples false (registerWrite 0 0x02)) (fresh 0)) (replicate 77 0 ++ (3 ∷ []))
 
 -- M3: A load that runs on into the next sector, or writes unloaded places: 27 bytes at 0026h change 0020h and 0026h-003Fh and no others
 abbrev pub error-3 : Bool
-error-3 = agree (changes erased (sent (message 0 0x0026 (upFrom 27 1)) (pelSet (fresh 0)) .array)) (0x0020 ∷ upFrom 26 0x0026)
+error-3 = agree (changes erased (stored (message 0 0x0026 (upFrom 27 1)) (pelSet (fresh 0)) .array)) (0x0020 ∷ upFrom 26 0x0026)
 
 -- the STOP is the last of 77 events
 abbrev pub pinAtStop : Bool → Bool → ℕ → List Event

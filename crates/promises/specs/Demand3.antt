@@ -10,7 +10,7 @@
 -- | `Protected` | what the sentence takes of the chip and the scene |
 -- | `Promised` | what it promises of them |
 use Prim.Native.Nat.{ℕ, _+_, _%_, _≤_, _<_}
-use mathlib.Core.Bool.{Bool, true}
+use mathlib.Core.Bool.{Bool, true, false}
 use mathlib.Core.List.{List, _++_, map}
 use mathlib.Core.Path.{_≡_}
 use lib.ListN.{length, drop}
@@ -80,10 +80,12 @@ heard s w = heardOf (s .pins) (randomRead (w .chip .select) (s .address) (s .n))
 
 -- D3: the chip before the noise, the noise, and where the read goes
 pub record Protected (s : Scene) (w : World) : Type 0 where
+  -- no cycle is in progress: one could end with PPEN and BL that unlock
+  pub idle : w .chip .busy ≡ false
   -- the chip is hardware-protected, and a region of it is locked
   pub ppen-set : w .chip .register .ppen ≡ true
   pub region-locked : w .chip .register .bl ≡ 0 → ⊥
-  -- no sample of the noise has the pin low; power-ups and program-dones may stand among them
+  -- no sample of the noise has the pin low; power-ups with any choices and program-dones may stand among them
   pub pin-high : pinsHigh (s .noise) ≡ true
   -- the read begins in the array, and each address that it comes to, 0000h after 3FFFh, is locked
   pub address-in : s .address ≤ 0x3fff

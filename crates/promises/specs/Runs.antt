@@ -1,16 +1,19 @@
--- Concrete runs for demand 3, on either part: one that meets all that it takes, and two that fail one hypothesis each.
+-- Concrete runs for demand 3, on either part: one that meets all that it takes, and three that fail one hypothesis each.
 --
 -- | Name | Meaning |
 -- |---|---|
 -- | `high`, `lowAtStop` | the pin high in every sample; low in the STOP of a register write alone |
 -- | `registerSet` | PEL, RPEL, then a register byte and its cycle |
--- | `attack` | a register byte that clears PPEN and BL, then 55h alone to address 0000h and its cycle |
+-- | `strike` | 55h alone to address 0000h and its cycle |
+-- | `attack` | a register byte that clears PPEN and BL, then the strike |
 -- | `struck part` | what this leaves there: 55h on the X24128, the spoil byte on the X24F128 |
 -- | `cutRead` | a slave byte with read, cut with SCL low in its acknowledge |
 -- | `edged` | an array of FFh with 00h at its first address and A5h at its last |
 -- | `registered part`, `protected part`, `unprotected part` | a chip with a register byte, run from power-up; PPEN 1 and BL 3; PPEN 0 and BL 3 |
+-- | `unlocking part` | the protected chip in a cycle for which PPEN 0 and BL 0 wait, let through by the pin low before |
 -- | `withstood` | the attack with the pin high, a power-up and a cut read; two bytes read over the roll-over |
 -- | `attacked` | the attack with these pins in its register byte; one byte read |
+-- | `struckLater` | a program-done and the strike, the pin high; one byte read |
 -- | `lows` | how many samples have the pin low |
 -- | `Lost` | a byte was locked before the noise, and the read returns another |
 use Prim.Native.Nat.{ℕ, _+_}
@@ -21,6 +24,7 @@ use lib.Dec.{eqb}
 use lib.ListN.{set}
 use Rattle.parts.specs.Locks.{locked}
 use Rattle.parts.specs.Sector.{erased}
+use Rattle.parts.specs.Wait.{firstHalf}
 use Rattle.chip.specs.Chip.{newChip}
 use Rattle.chip.specs.Run.{World, world, ran}
 use Rattle.chip.specs.View.{pinHigh}
@@ -47,9 +51,13 @@ registerSet select pins byte =
     ++ played pins (registerWrite select byte)
     ++ (ProgramDone ∷ [])
 
+-- one byte, the pin high
+unfoldable pub strike : ℕ → List Event
+strike select = played high (message select 0x0000 (0x55 ∷ [])) ++ (ProgramDone ∷ [])
+
 -- 02h as a register byte is PPEN 0 and BL 0
 unfoldable pub attack : ℕ → (ℕ → Bool) → List Event
-attack select pins = registerSet select pins 0x02 ++ played high (message select 0x0000 (0x55 ∷ [])) ++ (ProgramDone ∷ [])
+attack select pins = registerSet select pins 0x02 ++ strike select
 
 -- S7, S9: one byte is stored by the X24128, and spoils the sector of an X24F128
 abbrev pub struck : ℕ → ℕ
@@ -75,13 +83,21 @@ protected part = registered part 0x9a
 abbrev pub unprotected : ℕ → World
 unprotected part = registered part 0x1a
 
+-- the same, in force: its cycle has not ended
+unfoldable pub unlocking : ℕ → World
+unlocking part = ran (played high (registerWrite 5 0x06) ++ played lowAtStop (registerWrite 5 0x02)) (protected part)
+
 -- the attack with the pin high, a power-up, a cut read; then two bytes from 3FFFh
 abbrev pub withstood : Scene
-withstood = record { noise = attack 5 high ++ (PowerUp ∷ []) ++ cutRead 5; pin = false; pins = λ k. false; address = 0x3fff; n = 2 }
+withstood = record { noise = attack 5 high ++ (PowerUp firstHalf ∷ []) ++ cutRead 5; pin = false; pins = λ k. false; address = 0x3fff; n = 2 }
 
 -- the attack alone, with these pins in its register byte; then the byte at 0000h
 abbrev pub attacked : (ℕ → Bool) → Scene
 attacked pins = record { noise = attack 5 pins; pin = true; pins = high; address = 0x0000; n = 1 }
+
+-- the cycle ends, and the byte comes; then the byte at 0000h
+abbrev pub struckLater : Scene
+struckLater = record { noise = ProgramDone ∷ strike 5; pin = true; pins = high; address = 0x0000; n = 1 }
 
 -- the samples with the pin low, counted
 unfoldable pub lows : List Event → ℕ

@@ -1,5 +1,5 @@
 -- What the sender's events do to a chip, part by part: the chips that they are for, how such a chip ends, what it answers on the way, and what its
--- array holds then. (RULES A6-A9, D5.)
+-- array holds then. (RULES A6-A9, A11, D5.)
 --
 -- | Name | Meaning |
 -- |---|---|
@@ -9,21 +9,27 @@
 -- | `notesWith note` | the notes of the 713 events, this one at the last STOP |
 -- | `Ends note` | how the events end: the chip, and the notes and acknowledges in their answers |
 -- | `Wrote` | the sector holds the record, and every other byte is kept |
+-- | `cutAfter n choices` | what is left where the power is lost after n of the events |
+-- | `OldOrNew`, `Cut` | a byte is the one that stood there or the one that came; each byte of the sector is, and every other byte is kept |
 -- | `readBack pins select gate w` | the 32 bytes that a random read of the sector gives |
 use Prim.Native.Nat.{ℕ, _+_, _*_, _<_}
-use mathlib.Core.Bool.{Bool, true, false}
+use mathlib.Core.Bool.{Bool, true, false, cond}
 use mathlib.Core.List.{List, [], _∷_, _++_, map}
 use mathlib.Core.Path.{_≡_}
-use lib.ListN.{length, getD, drop, replicate}
+use lib.ListN.{length, getD, take, drop, replicate}
 use Rattle.parts.specs.Load.{noLoad}
 use Rattle.parts.specs.Locks.{locked}
 use Rattle.parts.specs.Register.{withPel}
 use Rattle.parts.specs.Sector.{sectorStart, sectorOf}
+use Rattle.parts.specs.Wait.{noWait}
 use Rattle.parts.specs.declared.phase.Phase.the-variants.{Standby}
 use Rattle.chip.specs.Chip.{withTransfer, withCycle, withLevels}
-use Rattle.chip.specs.Run.{World}
+use Rattle.chip.specs.Run.{World, step}
 use Rattle.chip.specs.declared.chip.Chip.{Chip}
+use Rattle.chip.specs.declared.wire.Event.the-variants.{PowerUp}
 use Rattle.trace.specs.Bytes.{answerLine, answerNote}
+use Rattle.trace.specs.Trace.{after}
+use Rattle.sender.specs.Sending.{sentEvents}
 use Rattle.messages.specs.Messages.{begin}
 use Rattle.messages.specs.RandomRead.{AckAt, randomRead, bytesRead}
 use Rattle.messages.specs.Wires.{heardOf}
@@ -42,9 +48,11 @@ pub record Ready (select : ℕ) (w : World) : Type 0 where
 abbrev pub shutAt : ℕ → Chip → Bool
 shutAt gate c = locked (c .part) (c .register .bl) false (gate * 32)
 
--- A9: idle in standby with PEL set, part, select, PPEN, BL and RPEL as they were; the counter stands at the sector's start
+-- A9: idle in standby with PEL set, part, select, PPEN, BL and RPEL as they were, nothing waiting; the counter stands at the sector's start. Where the sector is locked
+-- no cycle begins, and what a caller's chip says that waits stays
 abbrev pub ended : ℕ → Chip → Chip
-ended gate c = withLevels (withTransfer (withCycle c (withPel (c .register) true) false) Standby (gate * 32) false noLoad) true true
+ended gate c =
+    withLevels (withTransfer (withCycle c (withPel (c .register) true) false (cond (shutAt gate c) (c .wait) noWait)) Standby (gate * 32) false noLoad) true true
 
 -- A9: 3 at event 76, where PEL is set, this note at event 711, 0 at all others
 abbrev pub notesWith : ℕ → List ℕ
@@ -61,6 +69,21 @@ pub record Ends (note gate : ℕ) (w w′ : World) (answers : List ℕ) : Type 0
 pub record Wrote (gate : ℕ) (bytes xs ys : List ℕ) : Type 0 where
   pub sized : length ys ≡ length xs
   pub sector : sectorOf gate ys ≡ bytes
+  pub others : (a : ℕ) → (sectorStart a ≡ gate * 32 → ⊥) → getD ys a 0 ≡ getD xs a 0
+
+-- A11: a power-up with any choices after the first n of the events
+abbrev pub cutAfter : ℕ → ℕ → ℕ → ℕ → List ℕ → World → World
+cutAfter n choices select gate bytes w = step (PowerUp choices) (after (take n (sentEvents select gate bytes)) w)
+
+-- byte by byte
+pub data OldOrNew (old new byte : ℕ) : Type 0 where
+  kept : byte ≡ old → OldOrNew old new byte
+  taken : byte ≡ new → OldOrNew old new byte
+
+-- A11: what is left of the array
+pub record Cut (gate : ℕ) (bytes xs ys : List ℕ) : Type 0 where
+  pub sized : length ys ≡ length xs
+  pub sector : (k : ℕ) → k < 32 → OldOrNew (getD xs (gate * 32 + k) 0) (getD bytes k 0) (getD ys (gate * 32 + k) 0)
   pub others : (a : ℕ) → (sectorStart a ≡ gate * 32 → ⊥) → getD ys a 0 ≡ getD xs a 0
 
 -- W8: a START, then the read; what is heard of the START's two events is no part of it

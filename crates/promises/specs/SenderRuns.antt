@@ -4,6 +4,7 @@
 -- |---|---|
 -- | `northRecord`, `north17 select` | the record of worked case 4; its events as gate 17's |
 -- | `up part bl` | a chip at select 5 with PPEN set and spoil byte 00h, just powered up, over an array of FFh |
+-- | `halfway part` | the sector of gate 17 where the power is lost behind the last STOP and places 0 to 15 are taken |
 -- | `armed part` | a chip with PPEN 1, BL 3 and RPEL 1 |
 -- | `Unlocks` | the events take PPEN and BL away, and leave no record |
 use Prim.Native.Nat.{ℕ}
@@ -11,8 +12,8 @@ use mathlib.Core.Bool.{true, false}
 use mathlib.Core.List.{List, [], _∷_, map}
 use mathlib.Core.Path.{_≡_}
 use lib.IntN.{pos}
-use lib.ListN.{take}
-use Rattle.parts.specs.Sector.{erased}
+use Rattle.parts.specs.Sector.{sectorOf, erased}
+use Rattle.parts.specs.Wait.{firstHalf}
 use Rattle.chip.specs.Chip.{atPowerUp}
 use Rattle.chip.specs.Run.{World, world, notes}
 use Rattle.gate.specs.Writing.{writtenOf}
@@ -21,6 +22,7 @@ use Rattle.trace.specs.Trace.{after}
 use Rattle.messages.specs.Messages.{registerWrite}
 use Rattle.sender.specs.Sending.{sentEvents}
 use Rattle.promises.specs.Cases.{buffer, north, sent, fresh, locking, loud}
+use Rattle.promises.specs.Sender.{cutAfter}
 
 -- closed 0, open 1,200, "NORTH"
 abbrev pub northRecord : List ℕ
@@ -34,15 +36,20 @@ north17 select = sentEvents select 17 northRecord
 abbrev pub up : ℕ → ℕ → World
 up part bl = world (atPowerUp part 5 true bl 0x00) erased
 
+-- 712 events, and then event byte 11
+abbrev pub halfway : ℕ → List ℕ
+halfway part = sectorOf 17 (cutAfter 712 firstHalf 5 17 northRecord (up part 0) .array)
+
 -- run from power-up at select 0: 9Ah writes PPEN 1 and BL 3, and then 06h sets RPEL
 abbrev pub armed : ℕ → World
 armed part = sent (registerWrite 0 0x06) (locking 0x9a (fresh part))
 
--- after the first message PPEN and BL are gone; its cycle makes the chip deaf to the second, so note 2 is the only one
+-- the first message lets PPEN 0 and BL 0 wait; its cycle makes the chip deaf to the second, so note 2 is the only one, and the program-done at the end takes PPEN and BL
+-- away
 pub record Unlocks (w : World) : Type 0 where
   pub rpel-before : w .chip .register .rpel ≡ true
   pub ppen-before : w .chip .register .ppen ≡ true
   pub bl-before : w .chip .register .bl ≡ 3
-  pub ppen-after : after (take 77 (north17 0)) w .chip .register .ppen ≡ false
-  pub bl-after : after (take 77 (north17 0)) w .chip .register .bl ≡ 0
+  pub ppen-after : after (north17 0) w .chip .register .ppen ≡ false
+  pub bl-after : after (north17 0) w .chip .register .bl ≡ 0
   pub told : loud (notes (map eventOf (north17 0)) w) ≡ 2 ∷ []

@@ -1,6 +1,6 @@
 -- How long a chip in range can hold the line: with SCL high a bit i that it sends takes i + 1 pulses, an acknowledge that turns to reading 9, one
 -- that is still to come 10; with SCL low one more where it pulls. Assumes nothing.
-use Prim.Native.Nat.{ℕ, zero, suc, _+_, _≤_}
+use Prim.Native.Nat.{ℕ, zero, suc, _≤_}
 use mathlib.Core.Bool.{Bool, true, false, not, _&&_}
 use mathlib.Core.Path.{_≡_, refl, sym, _∙_}
 use mathlib.Core.List.{List}
@@ -14,7 +14,7 @@ use Rattle.parts.specs.declared.phase.Phase.the-variants.{Standby, Slave, First
 use Rattle.parts.proofs.CondLaws.{cond-by}
 use Rattle.parts.proofs.PhaseLaws.{Loose, risen-pulls}
 use Rattle.chip.specs.Chip.{pulls, withTransfer, withLevels}
-use Rattle.chip.specs.Event.{next, nextArray, sampled, judged, judgedArray, reacted, reactedArray}
+use Rattle.chip.specs.Event.{next, nextArray, sampled, judged, reacted}
 use Rattle.chip.specs.Run.{World, world, step}
 use Rattle.chip.specs.Transfer.{fallIn, byteBegun, byteEnded, nextByte}
 use Rattle.chip.specs.Wire.{sample, lineOf, edgeOf}
@@ -67,12 +67,12 @@ atHigh c xs p = world (idleAt c true p) xs
 
 -- and is decided by what the fall leaves
 falling : (m : ℕ) (pin : Bool) (c : Chip) (xs : List ℕ) (p : Phase) → Half m pin (lowered (fallIn p (idleAt c true p) xs .chip) xs) → Soon m pin (atHigh c xs p)
-unfolding afterPulses pulse step next nextArray sampled judged judgedArray reacted reactedArray edgeOf
+unfolding afterPulses pulse step next nextArray sampled judged reacted edgeOf
 falling m pin c xs p h = h
 
 -- bit i is gone after i + 1 falls
 sends : (i : ℕ) (pin : Bool) (c : Chip) (xs : List ℕ) (byte : ℕ) → Soon i pin (atHigh c xs (Sending i byte))
-unfolding fallIn byteEnded phasePulls step next nextArray sampled judged judgedArray reacted reactedArray edgeOf risen
+unfolding fallIn byteEnded phasePulls step next nextArray sampled judged reacted edgeOf risen
 sends zero pin c xs byte =
     let d : Chip = idleAt c true (Sending zero byte) in
     falling 0 pin c xs (Sending zero byte)
@@ -92,7 +92,7 @@ acks m pin c xs p after h e = falling m pin c xs p (rw e (let-go m pin (idleAt c
 
 -- but where it turns to reading a byte follows, and so it does after the master's low bit
 begins : (pin : Bool) (c : Chip) (xs : List ℕ) (p : Phase) (byte : ℕ) → fallIn p (idleAt c true p) xs .chip ≡ idleAt c true (Sending 7 byte) → Soon 8 pin (atHigh c xs p)
-unfolding step next nextArray sampled judged judgedArray reacted reactedArray edgeOf risen
+unfolding step next nextArray sampled judged reacted edgeOf risen
 begins pin c xs p byte e =
     let v : World = lowered (idleAt c true (Sending 7 byte)) xs in
     falling 8 pin c xs p (rw e (up 7 pin v (sends 7 pin (raised pin v .chip) (raised pin v .array) byte)))
@@ -103,7 +103,7 @@ more m n pin v h (k, l, e) = (k, omega arith, e)
 
 -- SCL low, at any phase in range
 rising : (pin : Bool) (c : Chip) (xs : List ℕ) (p : Phase) → phaseFits p ≡ true → Half 9 pin (lowered (idleAt c (c .scl) p) xs)
-unfolding phaseFits phasePulls fallIn byteBegun step next nextArray sampled judged judgedArray reacted reactedArray edgeOf risen
+unfolding phaseFits phasePulls fallIn byteBegun step next nextArray sampled judged reacted edgeOf risen
 rising pin c xs Standby h = let-go 9 pin c xs Standby refl
 rising pin c xs (Slave bits got) h = let-go 9 pin c xs (Slave bits got) refl
 rising pin c xs (First bits got) h = let-go 9 pin c xs (First bits got) refl
@@ -142,7 +142,7 @@ falls pin c xs f =
 
 -- a chip by busy and SCL; a busy one does not pull
 by-levels : (pin : Bool) (w : World) (busy scl : Bool) → Fits (w .chip) → Soon 9 pin (worldWith w busy scl (w .chip .line))
-unfolding afterPulses pulse step next nextArray sampled judged judgedArray reacted reactedArray edgeOf pulls
+unfolding afterPulses pulse step next nextArray sampled judged reacted edgeOf pulls
 by-levels pin w true scl f = (0, omega arith, refl)
 by-levels pin w false true f = falls pin (w .chip) (w .array) f
 by-levels pin w false false f = rising pin (w .chip) (w .array) (w .chip .phase) (f .phase)

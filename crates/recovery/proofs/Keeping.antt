@@ -1,9 +1,10 @@
--- What a pulse and a START keep: part, select, spoil byte, register, busy and the array, since neither is a STOP. Assumes nothing.
+-- What a pulse and a START keep: part, select, spoil byte, register, busy, what waits and the array, since neither is a STOP. Assumes nothing.
 use Prim.Native.Nat.{ℕ}
 use mathlib.Core.Bool.{Bool, true, false, cond}
 use mathlib.Core.Path.{_≡_, refl, _∙_}
 use mathlib.Core.List.{List}
 use Rattle.parts.specs.declared.register.Register.{Register}
+use Rattle.parts.specs.declared.wait.Wait.{Wait}
 use Rattle.chip.specs.Chip.{pulls}
 use Rattle.chip.specs.Event.{next, sampled}
 use Rattle.chip.specs.Run.{World, world, step}
@@ -18,21 +19,22 @@ use Rattle.chip.proofs.ViewLaws.{unstopped}
 use Rattle.recovery.specs.Recovery.{pulse}
 
 -- what is kept of a chip and its array, over what is left of them
-pub record Fixed (w : World) (p s q : ℕ) (r : Register) (b : Bool) (ys : List ℕ) : Type 0 where
+pub record Fixed (w : World) (p s q : ℕ) (r : Register) (b : Bool) (t : Wait) (ys : List ℕ) : Type 0 where
   pub part : p ≡ w .chip .part
   pub select : s ≡ w .chip .select
   pub spoil : q ≡ w .chip .spoil
   pub register : r ≡ w .chip .register
   pub busy : b ≡ w .chip .busy
+  pub waiting : t ≡ w .chip .wait
   pub array : ys ≡ w .array
 
 -- a world keeps so much of another
 abbrev pub Keeps : World → World → Type 0
-Keeps w v = Fixed w (v .chip .part) (v .chip .select) (v .chip .spoil) (v .chip .register) (v .chip .busy) (v .array)
+Keeps w v = Fixed w (v .chip .part) (v .chip .select) (v .chip .spoil) (v .chip .register) (v .chip .busy) (v .chip .wait) (v .array)
 
 -- each world keeps its own
 abbrev pub itself : (w : World) → Keeps w w
-itself w = record { part = refl; select = refl; spoil = refl; register = refl; busy = refl; array = refl }
+itself w = record { part = refl; select = refl; spoil = refl; register = refl; busy = refl; waiting = refl; array = refl }
 
 -- one step after another
 pub and-then : (u v w : World) → Keeps u v → Keeps v w → Keeps u w
@@ -43,6 +45,7 @@ and-then u v w k l =
       spoil = l .spoil ∙ k .spoil;
       register = l .register ∙ k .register;
       busy = l .busy ∙ k .busy;
+      waiting = l .waiting ∙ k .waiting;
       array = l .array ∙ k .array;
     }
 
@@ -57,7 +60,7 @@ unstopped-keeps scl sda pin w other =
     let s : Levels = record { scl = scl; sda = sda; pin = pin } in
     let u = unstopped s (w .chip) (w .array) other in
     let t = next-same (sample scl sda pin) (w .chip) (w .array) in
-    record { part = t .0; select = t .1; spoil = t .2; register = u .register; busy = u .same; array = u .array }
+    record { part = t .0; select = t .1; spoil = t .2; register = u .register; busy = u .same; waiting = u .waiting; array = u .array }
 
 -- SCL low makes no stop, and neither does SCL that was low
 low-edge : (scl line now : Bool) → isStop (edgeOf scl false line now) ≡ false

@@ -1,4 +1,4 @@
--- What recovery leaves: the array and the four register bits as they were, a chip in range, and on an idle one a START that it saw.
+-- What recovery leaves: the array, the four register bits and what waits as they were, a chip in range, and on an idle one a START that it saw.
 -- Assumes nothing.
 use Prim.Native.Nat.{ℕ, zero, suc}
 use mathlib.Core.Bool.{Bool, true, false}
@@ -6,7 +6,7 @@ use mathlib.Core.Path.{_≡_, refl, _∙_, ap, subst}
 use lib.ListN.{length}
 use Rattle.parts.specs.Phase.{phasePulls}
 use Rattle.chip.specs.Chip.{chipFits, pulls, withLevels}
-use Rattle.chip.specs.Event.{next, nextArray, sampled, judged, judgedArray, reacted, refusal}
+use Rattle.chip.specs.Event.{next, nextArray, sampled, judged, reacted, refusal}
 use Rattle.chip.specs.Run.{World, world, step}
 use Rattle.chip.specs.View.{SeesStart}
 use Rattle.chip.specs.Wire.{sample}
@@ -45,11 +45,11 @@ recovered-keeps pin w = go (counted 9 1 pin w)
         rw (c .there)
         (and-then w v (step (sample true false pin) v) (pulses-keep (suc (c .n)) pin w) (start-keeps pin v))
 
--- recovery changes no array byte, none of PPEN, BL, RPEL and PEL, and no spoil byte, whatever the chip
+-- recovery changes no array byte, none of PPEN, BL, RPEL and PEL, no spoil byte and nothing that waits, whatever the chip
 pub recovery-keeps : (pin : Bool) (w : World) → Unchanged w (recovered pin w)
 recovery-keeps pin w =
     let k : Keeps w (recovered pin w) = recovered-keeps pin w in
-    record { array = k .array; register = k .register; part = k .part; select = k .select; spoil = k .spoil }
+    record { array = k .array; register = k .register; part = k .part; select = k .select; spoil = k .spoil; busy = k .busy; waiting = k .waiting }
 
 -- pulses lead from a chip in range to one in range
 pulses-fit : (n : ℕ) (pin : Bool) (w : World) → chipFits (w .chip) ≡ true → chipFits (afterPulses n pin w .chip) ≡ true
@@ -80,7 +80,7 @@ busy-recovery pin w b =
     subst
     (λ (v : World). (freed pin v .pulses ≡ 1) × (recovered pin v ≡ world (withLevels (v .chip) true false) (v .array)))
     (known w b refl refl)
-    (unfold recovered pulsed pulse step next nextArray sampled judged judgedArray pulls in (refl, refl))
+    (unfold recovered pulsed pulse step next nextArray sampled judged pulls in (refl, refl))
 
 -- an idle chip with SCL and the line high sees the START
 start-seen : (pin : Bool) (w : World) → SeesStart (step (sample true false pin) (worldWith w false true true) .chip)

@@ -4,7 +4,7 @@
 -- |---|---|
 -- | `afterPulses n` | the world after n pulses |
 -- | `FirstHigh` | the number of the first pulse with a high line after it, and the world there |
--- | `Unchanged` | two worlds with one array, part, select, register (PPEN, BL, RPEL and PEL) and spoil byte |
+-- | `Unchanged` | two worlds with one array, part, select, register (PPEN, BL, RPEL and PEL), spoil byte, busy flag and wait |
 use Prim.Native.Nat.{ℕ, zero, suc, _≤_, _<_}
 use mathlib.Core.Bool.{Bool, true, false}
 use mathlib.Core.Path.{_≡_}
@@ -31,3 +31,5 @@ pub record Unchanged (before after : World) : Type 0 where
   pub part : after .chip .part ≡ before .chip .part
   pub select : after .chip .select ≡ before .chip .select
   pub spoil : after .chip .spoil ≡ before .chip .spoil
+  pub busy : after .chip .busy ≡ before .chip .busy
+  pub waiting : after .chip .wait ≡ before .chip .wait

@@ -5,13 +5,13 @@ use mathlib.Core.List.{List, [], _∷_, _++_}
 use mathlib.Core.Path.{_≡_, refl, ap, _∙_}
 use native.Mathlib.Omega.{arith}
 use borrow.Author.Tests.{ltb-false, le-ltb}
-use lib.Dec.{leb, ltb}
+use lib.Dec.{ltb}
 use lib.IntN.{ℤ}
 use lib.ListN.{length, set, take, drop, length-append}
 use lib.Seq.{sets-eq, take-at}
 use Rattle.parts.specs.Rows.{every}
 use Rattle.parts.proofs.RowLaws.{every-on}
-use Rattle.trace.specs.Bytes.{allEvents}
+use Rattle.trace.specs.Bytes.{isEvent, allEvents}
 use Rattle.trace.specs.Trace.{unless}
 use Rattle.gate.specs.Reading.{readOf, goodOf}
 use Rattle.gate.specs.Writing.{writeOf, writtenOf}
@@ -73,7 +73,7 @@ module _ (select gate : ℕ) (bytes : List ℕ) (sized : length bytes ≡ 32) wh
   pub sent-events : allEvents (sentEvents select gate bytes) ≡ true
   unfolding sentEvents wires every
   sent-events =
-      every-on (λ (byte : ℕ). leb byte 9) (low wires) (8 ∷ []) (spelled-events (λ k. false) wires) refl
+      every-on isEvent (low wires) (8 ∷ []) (spelled-events (λ k. false) wires) refl
 
   -- the first message, the second behind it, and a program-done
   pub all-sent : (one two old : List ℕ) → 713 ≤ length old → one ≡ over 0 (low (registerWrite select 0x02)) old

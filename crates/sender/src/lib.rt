@@ -9,7 +9,7 @@ use crate::spelling::put_message;
 use gate::answer::Read;
 use gate::read;
 
-// How many events a record takes: 77 that set PEL, 635 that write it, and a program-done.
+// How many events a record takes: 77 that set PEL, 635 after which it waits, and the program-done that stores it.
 pub const EVENTS: usize = 713;
 
 // What sending answers: the number of the refusal or 0, and how many events were written.

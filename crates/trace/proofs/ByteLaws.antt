@@ -6,11 +6,10 @@ use mathlib.Core.Path.{_≡_, refl, ap₂}
 use mathlib.Core.List.{List, [], _∷_, map}
 use native.Mathlib.Omega.{arith}
 use borrow.Author.Tests.{eq-eqb, ne-eqb}
-use lib.Dec.{leb}
 use Rattle.chip.specs.Run.{World, step, noteOf, lines, notes}
 use Rattle.chip.specs.Wire.{sample}
 use Rattle.chip.proofs.ViewLaws.{next-note}
-use Rattle.trace.specs.Bytes.{eventOf, sampleByte, answerByte, answerLine, answerNote}
+use Rattle.trace.specs.Bytes.{eventOf, sampleByte, isEvent, answerByte, answerLine, answerNote}
 use Rattle.trace.specs.Trace.{answersOf}
 
 -- the byte of a sample is read as that sample
@@ -26,7 +25,7 @@ sample-event false false true = refl
 sample-event false false false = refl
 
 -- and is an event byte
-pub sample-taken : (scl sda pin : Bool) → leb (sampleByte scl sda pin) 9 ≡ true
+pub sample-taken : (scl sda pin : Bool) → isEvent (sampleByte scl sda pin) ≡ true
 sample-taken true true true = refl
 sample-taken true true false = refl
 sample-taken true false true = refl

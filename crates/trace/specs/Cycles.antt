@@ -4,7 +4,7 @@
 -- |---|---|
 -- | `begins note` | the note says that a cycle has begun, of the array or of the register |
 -- | `cycles notes` | how many of a row of notes say so |
--- | `Still es w` | a row of events leaves array, register, counter and the busy flag, and none of them has a note |
+-- | `Still es w` | a row of events leaves array, register, what waits and the busy flag, and none of them has a note |
 use Prim.Native.Nat.{ℕ, _+_}
 use mathlib.Core.Bool.{Bool, true, _||_}
 use mathlib.Core.List.{List, [], _∷_}
@@ -29,6 +29,6 @@ cycles (note ∷ rest) = weight (begins note) 1 + cycles rest
 pub record Still (es : List Event) (w : World) : Type 0 where
   pub array : ran es w .array ≡ w .array
   pub register : ran es w .chip .register ≡ w .chip .register
-  pub counter : ran es w .chip .counter ≡ w .chip .counter
+  pub waiting : ran es w .chip .wait ≡ w .chip .wait
   pub busy : ran es w .chip .busy ≡ true
   pub silent : notes es w ≡ replicate (length es) 0

@@ -29,7 +29,7 @@ answersOf [] w = []
 answersOf (byte ∷ bytes) w =
     answerByte (step (eventOf byte) w .chip .line) (noteOf (eventOf byte) w) ∷ answersOf bytes (step (eventOf byte) w)
 
--- O3, F4-F6, B6: 4 for over 65,536 events, 5 for too little room, 6 for a byte above 9
+-- O3, F4-F6, B6: 4 for over 65,536 events, 5 for too little room, 6 for a byte above 11
 unfoldable pub runRefusal : Chip → List ℕ → List ℕ → ℕ → ℕ
 runRefusal c xs bytes room =
     cond (eqb (refusal c xs) 0)

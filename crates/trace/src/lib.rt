@@ -11,6 +11,9 @@ use chip::wire::Event;
 use chip::wire::Sample;
 use parts::phase::bit_of;
 use parts::phase::weigh;
+use parts::wait::EVERY_PLACE;
+use parts::wait::FIRST_HALF;
+use parts::wait::NO_PLACE;
 
 // What running a trace answers.
 pub struct Ran {
@@ -26,7 +29,17 @@ pub fn event_of(byte: u8) -> Event
         return Event::ProgramDone;
     }
     if byte == 9 {
-        return Event::PowerUp;
+        return Event::PowerUp {
+            choices: EVERY_PLACE,
+        };
+    }
+    if byte == 10 {
+        return Event::PowerUp { choices: NO_PLACE };
+    }
+    if byte == 11 {
+        return Event::PowerUp {
+            choices: FIRST_HALF,
+        };
     }
     let scl = bit_of(byte, 0);
     let sda = bit_of(byte, 1);
@@ -58,7 +71,7 @@ fn all_events(trace: &[u8]) -> bool
 {
     let mut i: usize = 0;
     while i < trace.len() {
-        if 9 < trace[i] {
+        if 11 < trace[i] {
             return false;
         }
         i = i + 1;

@@ -5,6 +5,7 @@ use crate::wires;
 use crate::wires::Tape;
 use chip::chip::Chip;
 use chip::event::Answer;
+use chip::wire::Event;
 
 // A chip's array, and one byte beside it.
 pub(crate) type Array = [u8; 16385];
@@ -81,15 +82,15 @@ pub(crate) fn along(d: Desk) -> usize {
 }
 
 // One event on the chip, with the map or without.
-fn answer(d: Desk, array: &mut [u8], map: &mut [u8], event: u8) -> Answer {
+fn answer(d: Desk, array: &mut [u8], map: &mut [u8], event: Event) -> Answer {
     if d.keeping {
-        return map::event(d.chip, array, map, trace::event_of(event));
+        return map::event(d.chip, array, map, event);
     }
-    d.chip.event(array, trace::event_of(event))
+    d.chip.event(array, event)
 }
 
 // One event on what is lent: its refusal and its note are written where there is one.
-fn ran(desk: Desk, array: &mut [u8], map: &mut [u8], event: u8) -> Desk {
+fn ran(desk: Desk, array: &mut [u8], map: &mut [u8], event: Event) -> Desk {
     let mut d = desk;
     let room = d.room;
     let span = along(d);
@@ -101,10 +102,23 @@ fn ran(desk: Desk, array: &mut [u8], map: &mut [u8], event: u8) -> Desk {
             let chip = answer.chip;
             d.chip = chip;
             d.line = answer.line;
-            return hear(d, event);
+            return d;
         }
     }
-    hear(d, event)
+    d
+}
+
+// One event byte, heard.
+fn heard(d: Desk, array: &mut Array, map: &mut Map, event: u8) -> Desk {
+    let after = ran(d, array, map, trace::event_of(event));
+    hear(after, event)
+}
+
+// A power-up with any choices, and the line after it.
+pub(crate) fn cut(d: Desk, array: &mut Array, map: &mut Map, choices: u32) -> Desk {
+    let after = ran(d, array, map, Event::PowerUp { choices: choices });
+    say::number(b':', after.line as u64, 1);
+    after
 }
 
 // The events of a tape from a position on.
@@ -112,7 +126,7 @@ fn played(desk: Desk, array: &mut Array, map: &mut Map, tape: &[u8], from: usize
     let mut d = desk;
     let mut i = from;
     while i < tape.len() {
-        d = ran(d, array, map, tape[i]);
+        d = heard(d, array, map, tape[i]);
         i = i + 1;
     }
     d

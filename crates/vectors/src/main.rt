@@ -3,6 +3,7 @@
 mod alter;
 mod count;
 mod desk;
+mod loads;
 mod maps;
 mod orders;
 mod records;

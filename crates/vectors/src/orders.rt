@@ -1,10 +1,10 @@
 // The orders of a script: each is a letter, with a number in front where it wants one.
 use crate::alter;
-use crate::count;
 use crate::desk;
 use crate::desk::Array;
 use crate::desk::Desk;
 use crate::desk::Map;
+use crate::loads;
 use crate::maps;
 use crate::records;
 use crate::say;
@@ -22,25 +22,6 @@ fn show(d: Desk) {
     say::number(b',', chip.counter as u64, 4);
     say::flag(chip.mark, b'm');
     say::flag(chip.busy, b'b');
-}
-
-// The count of the load, how many places are loaded, and the sum of its bytes.
-fn show_load(d: Desk) {
-    let chip = d.chip;
-    let load = chip.load;
-    let bytes = load.bytes;
-    let places = load.places;
-    let mut loaded: u64 = 0;
-    let mut sum: u64 = 0;
-    let mut i: usize = 0;
-    while i < Chip::SECTOR {
-        loaded = count::one_more(loaded, places[i]);
-        sum = count::added(sum, bytes[i]);
-        i = i + 1;
-    }
-    say::number(b'=', load.count as u64, 2);
-    say::number(b',', loaded, 2);
-    say::number(b',', sum, 4);
 }
 
 // A new chip, part in the high digit and select in the low one, and an array of FFh.
@@ -70,6 +51,7 @@ fn run(d: Desk, array: &mut Array, map: &mut Map, tape: &mut Tape, order: u8) ->
     let value = d.value;
     match order {
         b'k' => desk::burst(d, array, map, tape, value),
+        b'P' => desk::cut(d, array, map, value),
         b'v' => tape::recover(d, array),
         b't' => tape::run_tape(d, array, map, tape),
         b'S' => sending::send_record(d, array, tape),
@@ -84,7 +66,8 @@ fn look(d: Desk, array: &mut Array, tape: &mut Tape, order: u8) {
     let value = d.value as usize;
     match order {
         b'i' => show(d),
-        b'h' => show_load(d),
+        b'h' => loads::show_load(d.chip),
+        b'H' => loads::show_wait(d.chip),
         b'm' => tape::peek(array, value),
         b'o' => tape::sector(array, value),
         b'w' => tape::poke(array, value / 256, n),
@@ -174,7 +157,7 @@ fn acted(d: Desk, array: &mut Array, map: &mut Map, tape: &mut Tape, order: u8) 
 // The number that is being read, with one digit more.
 fn digit(desk: Desk, n: u8) -> Desk {
     let mut d = desk;
-    d.value = d.value % 16777216 * 16 + n as u32;
+    d.value = d.value % 268435456 * 16 + n as u32 % 16;
     d.number = true;
     d
 }

@@ -1,6 +1,6 @@
 -- The pulses, then the start; a refusal leaves all as it was. Assumes nothing.
 use mathlib.Core.Bool.{true, false}
-use mathlib.Core.Path.{_≡_, ap, sym, _∙_}
+use mathlib.Core.Path.{ap, sym, _∙_}
 use borrow.Author.Needs.{needs}
 use borrow.Author.Tests.{eq-eqb, ne-eqb}
 use Rattle.chip.specs.Event.{refusal}

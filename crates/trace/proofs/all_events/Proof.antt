@@ -3,10 +3,9 @@ use Prim.Native.Nat.{_≤_, _-_}
 use mathlib.Core.Path.{_≡_, refl, sym}
 use native.Mathlib.Omega.{arith}
 use borrow.Author.Tests.{le-leb, lt-leb}
-use lib.Dec.{leb}
 use lib.ListN.{length, drop}
 use Rattle.parts.proofs.RowLaws.{every-again, every-not, every-end}
-use Rattle.trace.specs.Bytes.{allEvents}
+use Rattle.trace.specs.Bytes.{isEvent, allEvents}
 use Rattle.trace.proofs.all_events.Statement.{statement}
 use Rattle.trace.proofs.all_events.Tie as tie
 
@@ -24,8 +23,8 @@ all-events-spec =
     μ-loop
     (λ c. (omega arith, refl))
     (λ c. omega arith)
-    (λ c. sym (every-not (λ byte. leb byte 9) _ _ (c .before .before .loop-test .taken) (lt-leb _ _ (c .if1 .taken)) (c .before .before .before .loop .inv .1)))
+    (λ c. sym (every-not isEvent _ _ (c .before .before .loop-test .taken) (lt-leb _ _ (c .if1 .taken)) (c .before .before .before .loop .inv .1)))
     (λ c. omega arith)
     (λ c. omega arith)
-    (λ c. (omega arith, every-again (λ byte. leb byte 9) _ _ (c .before .before .loop-test .taken) (le-leb _ _ (c .if1 .left)) (c .before .before .before .loop .inv .1)))
-    (λ c. sym (every-end (λ byte. leb byte 9) _ _ (c .loop-test .left) (c .before .loop .inv .1))))
+    (λ c. (omega arith, every-again isEvent _ _ (c .before .before .loop-test .taken) (le-leb _ _ (c .if1 .left)) (c .before .before .before .loop .inv .1)))
+    (λ c. sym (every-end isEvent _ _ (c .loop-test .left) (c .before .loop .inv .1))))

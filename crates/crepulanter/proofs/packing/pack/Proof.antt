@@ -1,13 +1,13 @@
--- The rows of `bytesOf` are copied one behind the other, so that after each the bytes up to its end are in place. Assumes nothing.
+-- The rows of `bytesOf` are copied one behind the other, so that after each the bytes up to its end are in place; what waits is the last. Assumes nothing.
 use Prim.Native.Nat.{ℕ}
-use mathlib.Core.List.{[], _∷_, append-assoc}
-use mathlib.Core.Path.{_≡_, refl, sym, _∙_}
+use mathlib.Core.List.{List, [], _∷_, _++_, append-assoc}
+use mathlib.Core.Path.{_≡_, refl, sym, ap, _∙_}
 use native.Mathlib.Omega.{arith}
 use borrow.Author.Needs.{needs}
 use lib.ListN.{length, replicate, length-replicate}
 use Rattle.crepulanter.specs.At as at
-use Rattle.crepulanter.specs.State.{bytesOf}
-use Rattle.crepulanter.proofs.Copies.{Front, front-more, front-end}
+use Rattle.crepulanter.specs.State.{waitBytes, bytesOf}
+use Rattle.crepulanter.proofs.Copies.{Front, front-more}
 use Rattle.crepulanter.proofs.packing.pack.Statement.{statement}
 use Rattle.crepulanter.proofs.packing.pack.Tie as tie
 
@@ -22,11 +22,12 @@ copy-at-requires-3 c κs =
 returns : tie.Need-returns
 unfolding bytesOf
 returns c =
-    let fourth = c .before in
+    let waiting = c .before in
+    let fourth = waiting .before .before .before in
     let third = fourth .before .before .before .before in
     let second = third .before .before .before .before in
     let first = second .before .before .before .before in
-    let places = first .before .before .before in
+    let places = first .before .before .before .before in
     let head = places .before in
     let chip = head .before .before .before .before .args .chip in
     let none : Front 0 [] (replicate at.size 0) = record { sized = length-replicate {A = ℕ} at.size 0; placed = refl } in
@@ -34,7 +35,9 @@ returns c =
     let two = front-more (places .flag-bytes .result) 32 one (search needs) (omega arith) (second .copy-at2 .ensures) in
     let three = front-more (chip .load .bytes) 32 two (sym (load-long (third .before))) (omega arith) (third .copy-at3 .ensures) in
     let four = front-more (chip .spoil ∷ []) 1 three refl (omega arith) (fourth .copy-at4 .ensures) in
-    front-end four ∙ simp (head .head-bytes .ensures, places .flag-bytes .ensures, append-assoc)
+    waiting .copy-wait .ensures
+    ∙ ap (λ (l : List ℕ). l ++ waitBytes (chip .wait)) (four .placed)
+    ∙ simp (head .head-bytes .ensures, places .flag-bytes .ensures, append-assoc)
 
 pub pack-spec : {M : Type 1} → statement M
 pack-spec =
@@ -52,6 +55,8 @@ pack-spec =
     load-long
     copy-at-requires-3
     (λ c. search needs)
+    (λ c. search needs)
+    (λ c κs. search needs)
     (λ c. search needs)
     (λ c κs. search needs)
     returns)

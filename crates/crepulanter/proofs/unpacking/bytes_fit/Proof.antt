@@ -1,4 +1,4 @@
--- The three tests are those of `bytesFit`. Assumes nothing.
+-- The four tests are those of `bytesFit`. Assumes nothing.
 use borrow.Author.Needs.{needs}
 use Rattle.crepulanter.specs.State.{bytesFit}
 use Rattle.crepulanter.proofs.unpacking.bytes_fit.Statement.{statement}
@@ -7,8 +7,8 @@ use Rattle.crepulanter.proofs.unpacking.bytes_fit.Tie as tie
 returns : tie.Need-returns
 unfolding bytesFit
 returns c =
-    let tested = c .before .before .before in
-    simp (c .before .all-flags2 .ensures, tested .all-flags .ensures, tested .before .before .row-at .ensures)
+    let tested = c .before .before .before .before in
+    simp (c .before .wait-fits .ensures, c .before .before .all-flags2 .ensures, tested .all-flags .ensures, tested .before .before .row-at .ensures)
 
 pub bytes-fit-spec : {M : Type 1} → statement M
 bytes-fit-spec =
@@ -25,6 +25,7 @@ bytes-fit-spec =
     (λ c. search needs)
     (λ c κs. search needs)
     (λ c. search needs)
+    (λ c κs. search needs)
     (λ c κs. search needs)
     (λ c. search needs)
     returns)

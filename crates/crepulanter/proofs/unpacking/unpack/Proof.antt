@@ -8,10 +8,11 @@ returns : tie.Need-returns
 unfolding chipOf
 returns c =
     let counted = c .before .before .before .before .before .before .before .before .before .before .before .before in
-    let loaded = counted .before .before .before in
+    let waiting = counted .before .before .before in
+    let loaded = waiting .before in
     let placed = loaded .before in
     let phased = placed .before .before in
-    simp (counted .counter-of .ensures, loaded .row-at2 .ensures, placed .flags-of .ensures, placed .before .row-at .ensures, phased .phase-of .ensures)
+    simp (counted .number-of .ensures, waiting .wait-of .ensures, loaded .row-at2 .ensures, placed .flags-of .ensures, placed .before .row-at .ensures, phased .phase-of .ensures)
 
 pub unpack-spec : {M : Type 1} → statement M
 unpack-spec =
@@ -21,6 +22,7 @@ unpack-spec =
     (λ c. search needs)
     (λ c. search needs)
     (λ c. search needs)
+    (λ c κs. search needs)
     (λ c κs. search needs)
     (λ c κs. search needs)
     (λ c κs. search needs)

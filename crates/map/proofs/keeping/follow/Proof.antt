@@ -1,16 +1,26 @@
--- A note of no write leaves the map, another enters the sector. Assumes nothing.
-use mathlib.Core.Path.{sym, _∙_}
+-- A waiting sector is entered, anything else leaves the map. Assumes nothing.
 use borrow.Author.Needs.{needs}
-use borrow.Author.Tests.{not-true, not-false}
+use Rattle.map.specs.Keeping.{enteredFor}
+use Rattle.map.proofs.KeepLaws.{sector-low}
 use Rattle.map.proofs.keeping.follow.Statement.{statement}
 use Rattle.map.proofs.keeping.follow.Tie as tie
 
+enter-requires : tie.Need-enter-requires
+enter-requires c κs =
+    let pre = c .before .before .before .before .before .before .pre in
+    (sector-low _ (rw (c .before .before .target .given .1) at (pre .0)), pre .1, pre .2)
+
 pub follow-spec : {M : Type 1} → statement M
+unfolding enteredFor
 follow-spec =
     tie.close
     (tie.spec
-    (λ c κs. search needs)
-    (λ c. rw (sym (c .before .is-write .ensures) ∙ not-true _ (c .if1 .taken)))
-    (λ c κs. search needs)
     (λ c. search needs)
-    (λ c. rw (sym (c .before .before .before .before .before .is-write .ensures) ∙ not-false _ (c .before .before .before .before .if1 .left)) (c .before .before .enter .ensures)))
+    (λ c. search needs)
+    (λ c. search needs)
+    enter-requires
+    (λ c. search needs)
+    (λ c. rw (c .enum-told .given .1))
+    (λ c. search needs)
+    (λ c. rw (c .before .before .before .before .before .target .given .1) (c .before .before .enter .ensures))
+    (λ c. rw (c .enum-told2 .given .1)))

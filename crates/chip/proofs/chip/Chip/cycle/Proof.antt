@@ -1,4 +1,4 @@
--- The load is stored from the sector's start on, and the chip rests. Assumes nothing.
+-- The load waits for the counter's sector, and the chip rests. Assumes nothing.
 use borrow.Author.Needs.{needs}
 use Rattle.chip.proofs.chip.Chip.cycle.Statement.{statement}
 use Rattle.chip.proofs.chip.Chip.cycle.Tie as tie
@@ -8,10 +8,5 @@ cycle-spec =
     tie.close
     (tie.spec
     (λ c κs. search needs)
-    (λ c. search needs)
     (λ c κs. search needs)
-    (λ c κs. search needs)
-    (λ c. search needs)
-    (λ c.
-    let stored = c .before .before .before in
-    (simp (c .none .ensures), simp (stored .store .ensures, stored .before .before .sector-start .ensures))))
+    (λ c. simp (c .none .ensures, c .before .of .ensures)))

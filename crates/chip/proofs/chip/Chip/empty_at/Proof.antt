@@ -8,4 +8,4 @@ empty-at-spec =
     tie.close
     (tie.spec
     (λ c κs. search needs)
-    (λ c. simp (c .before .none .ensures)))
+    (λ c. simp (c .before .before .none .ensures)))

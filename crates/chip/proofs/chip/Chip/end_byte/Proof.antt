@@ -11,6 +11,6 @@ end-byte-spec =
     tie.close
     (tie.spec
     (λ c κs. search needs)
-    (λ c. simp (sym (c .before .before .before .marked .ensures) ∙ c .before .before .if1 .taken))
+    (λ c. simp (sym (c .before .before .before .before .marked .ensures) ∙ c .before .before .before .if1 .taken))
     (λ c κs. search needs)
-    (λ c. simp (c .before .before .next-address .ensures, sym (c .before .before .before .before .marked .ensures) ∙ c .before .before .before .if1 .left)))
+    (λ c. let counted = c .before .before .before in simp (counted .next-address .ensures, sym (counted .before .before .marked .ensures) ∙ counted .before .if1 .left)))

@@ -13,7 +13,16 @@ event-spec =
     (tie.spec
     (λ c κs. search needs)
     (λ c κs. search needs)
+    (λ c κs. search needs)
     (λ c. search needs)
-    (λ c. (simp (c .before .before .before .next .ensures .0, eq-eqb _ _ (sym (c .before .before .before .before .before .before .refusal .ensures) ∙ c .before .before .before .before .before .if1 .taken)), simp (c .before .before .before .next .ensures .1, eq-eqb _ _ (sym (c .before .before .before .before .before .before .refusal .ensures) ∙ c .before .before .before .before .before .if1 .taken))))
+    (λ c.
+    let stepped = c .before .before .before in
+    let asked = stepped .before .before in
+    let zero = eq-eqb _ _ (sym (asked .before .refusal .ensures) ∙ asked .if1 .taken) in
+    (simp (c .answered .ensures, stepped .next .ensures .0, zero), simp (stepped .next .ensures .1, zero)))
+    (λ c κs. search needs)
     (λ c. search needs)
-    (λ c. (simp (ne-eqb _ _ (λ z. c .if1 .left (c .before .refusal .ensures ∙ z)), c .before .refusal .ensures), simp (ne-eqb _ _ (λ z. c .if1 .left (c .before .refusal .ensures ∙ z))))))
+    (λ c.
+    let said = c .before .before .refusal .ensures in
+    let other = ne-eqb _ _ (λ z. c .before .if1 .left (said ∙ z)) in
+    (simp (c .refused .ensures, other, said), simp other)))

@@ -1,4 +1,4 @@
--- The six ranges in the definition's order. Assumes nothing.
+-- The seven ranges in the definition's order. Assumes nothing.
 use borrow.Author.Needs.{needs}
 use Rattle.chip.specs.Chip.{chipFits}
 use Rattle.chip.proofs.chip.Chip.fits.Statement.{statement}
@@ -10,4 +10,5 @@ fits-spec =
     tie.close
     (tie.spec
     (λ c κs. search needs)
-    (λ c. simp (c .before .before .before .before .before .fits2 .ensures)))
+    (λ c κs. search needs)
+    (λ c. let asked = c .before .before .before .before .before in simp (asked .fits3 .ensures, asked .before .fits2 .ensures)))

@@ -15,8 +15,13 @@ next-spec =
     (λ c κs. search needs)
     (λ c. search needs)
     (λ c κs. search needs)
-    (λ c κs. search needs)
     (λ c. search needs)
-    (λ c. (simp (c .before .before .sample .ensures .0, c .before .before .before .before .before .event .given .1), simp (c .before .before .sample .ensures .1, c .before .before .before .before .before .event .given .1)))
-    (λ c. (simp (c .quietly .ensures, c .before .before .before .enum-told .given .1), simp (c .before .before .before .enum-told .given .1)))
-    (λ c. (simp (c .quietly2 .ensures, c .before .at-power-up .ensures, c .before .before .enum-told2 .given .1), simp (c .before .before .enum-told2 .given .1))))
+    (λ c. (simp (c .sample .ensures, c .before .before .before .event .given .1), simp (c .before .before .before .event .given .1)))
+    (λ c. search needs)
+    (λ c.
+    let told = c .before .before .before .before .enum-told .given .1 in
+    (simp (c .before .before .done .ensures .0, told), simp (c .before .before .done .ensures .1, told)))
+    (λ c. search needs)
+    (λ c.
+    let told = c .before .before .before .before .before .event2 .given .1 in
+    (simp (c .before .before .powered .ensures .0, told), simp (c .before .before .powered .ensures .1, told))))

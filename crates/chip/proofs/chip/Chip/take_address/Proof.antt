@@ -12,5 +12,5 @@ take-address-spec =
     (tie.spec
     (λ c. search needs)
     (λ c. search needs)
-    (λ c. simp (eq-eqb _ _ (c .before .before .if1 .taken)))
-    (λ c. simp (ne-eqb _ _ (c .before .before .if1 .left))))
+    (λ c. simp (eq-eqb _ _ (c .before .before .before .if1 .taken)))
+    (λ c. simp (ne-eqb _ _ (c .before .before .before .if1 .left))))

@@ -13,6 +13,6 @@ take-data-spec =
     (λ c κs. search needs)
     (λ c κs. search needs)
     (λ c κs. search needs)
-    (λ c. simp (c .before .next-place .ensures, c .before .before .with .ensures, sym (c .before .before .before .before .before .enabled .ensures) ∙ c .before .before .before .before .if1 .taken))
+    (λ c. let placed = c .before .before in simp (placed .next-place .ensures, placed .before .with .ensures, sym (placed .before .before .before .before .enabled .ensures) ∙ placed .before .before .before .if1 .taken))
     (λ c κs. search needs)
     (λ c. simp (c .at .ensures, sym (c .before .before .enabled .ensures) ∙ c .before .if1 .left)))

@@ -11,6 +11,6 @@ take-register-spec =
     tie.close
     (tie.spec
     (λ c κs. search needs)
-    (λ c. simp (c .before .with .ensures, eq-eqb _ _ (c .before .before .if1 .taken)))
+    (λ c. simp (c .before .before .with .ensures, eq-eqb _ _ (c .before .before .before .if1 .taken)))
     (λ c κs. search needs)
     (λ c. simp (c .empty-at .ensures, ne-eqb _ _ (c .before .if1 .left))))

@@ -9,4 +9,4 @@ settled-spec =
     (tie.spec
     (λ c κs. search needs)
     (λ c κs. search needs)
-    (λ c. simp (c .before .before .line-of .ensures, c .before .before .before .pulls .ensures)))
+    (λ c. simp (c .before .before .before .line-of .ensures, c .before .before .before .before .pulls .ensures)))
