@@ -120,9 +120,26 @@ void board_new_at(const char *file, int line, uint8_t part, uint8_t select)
     let_go(file, line);
 }
 
-void board_power_up_at(const char *file, int line)
+static void record_cut(const char *file, int line, uint32_t choices)
 {
-    board_event_at(file, line, CREP_POWER_UP);
+    if (choices == 0xffffffffu)
+        record(file, line, CREP_POWER_UP);
+    else if (choices == 0)
+        record(file, line, CREP_CUT_NONE);
+    else if (choices == 0xffff)
+        record(file, line, CREP_CUT_HALF);
+    else if (board.trace != NULL)
+        stop(file, line, "no event byte has these choices, and a trace is recorded");
+}
+
+void board_cut_at(const char *file, int line, uint32_t choices)
+{
+    uint8_t answer;
+
+    record_cut(file, line, choices);
+    board_taken_at(file, line, "crep_map_power_up",
+                   crep_map_power_up(&board.chip, board.array, sizeof board.array, board.map, sizeof board.map, choices,
+                                     &answer));
     let_go(file, line);
 }
 

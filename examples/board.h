@@ -5,7 +5,7 @@
  *     board_new(CREP_X24F128, 2);                 a chip as it comes from the drawer, both wires high
  *     board.polls = 3;                            its cycles last three polls
  *     .. your driver writes and waits ..
- *     if (board_note() != CREP_NOTE_STORED) ..    what the chip did
+ *     if (board_note() != CREP_NOTE_STORED) ..    what the chip did; its array changes where the cycle ends
  *
  * A call that the kit refuses stops the test: file, line and reason go to standard error and the exit status is 2. A
  * test runner sets board_stop to take it instead (cmocka_test.c does).
@@ -50,9 +50,14 @@ extern void (*board_stop)(const char *file, int line, const char *reason);
 /* The pin read: the level of the data wire, which the chip may pull too. */
 int board_line(void);
 
-/* Program-done; power-up, after which both wires are high again. */
+/* Program-done: what waits is written. */
 #define board_done() board_event_at(__FILE__, __LINE__, CREP_DONE)
-#define board_power_up() board_power_up_at(__FILE__, __LINE__)
+
+/* Power-up, after which both wires are high again. A cycle that it finds (none with polls 0) is cut off: all of it is
+ * written, or the places whose bits are set in choices, see crep_power_up. A trace takes FFFFFFFFh, 0 and FFFFh alone,
+ * which have an event byte; with other choices the test stops. */
+#define board_power_up() board_cut(0xffffffffu)
+#define board_cut(choices) board_cut_at(__FILE__, __LINE__, choices)
 
 /* Builds the map again, after the test has set bytes of the array itself. */
 #define board_map() board_map_at(__FILE__, __LINE__)
@@ -70,7 +75,7 @@ int board_note(void);
 void board_new_at(const char *file, int line, uint8_t part, uint8_t select);
 void board_wires_at(const char *file, int line, int scl, int sda);
 void board_event_at(const char *file, int line, uint8_t event);
-void board_power_up_at(const char *file, int line);
+void board_cut_at(const char *file, int line, uint32_t choices);
 void board_map_at(const char *file, int line);
 int board_recover_at(const char *file, int line);
 void board_taken_at(const char *file, int line, const char *call, uint8_t refusal);

@@ -118,15 +118,49 @@ static void the_kit_sends_a_record(void **state)
     assert_memory_equal(trace, events, n - 1);
 }
 
-/* With RPEL set the first message takes the locks away and the second is not heard: the driver says so. */
+/* With RPEL set the first message takes the locks away, when its cycle has ended, and the second is not heard: the
+ * driver says so. */
 static void rpel_must_be_clear(void **state)
 {
-    board.polls = 3;
+    board.polls = BOARD_NEVER;
     board.chip.bl = 3;
     board.chip.rpel = 1;
     assert_false(memory_send_record(SELECT, GATE, *state));
     assert_int_equal(board_note(), CREP_NOTE_REGISTER);
+    assert_int_equal(board.chip.bl, 3);
+    board_done();
     assert_int_equal(board.chip.bl, 0);
+}
+
+/* The power fails in the cycle that overwrites a record: the array was as before until then, and half of it is new. */
+static void a_cut_leaves_old_and_new(void **state)
+{
+    const uint8_t *sector = board.array + GATE * CREP_RECORD, *old_record = *state;
+    uint8_t new_record[CREP_RECORD], bytes[CREP_RECORD];
+
+    assert_true(memory_write_sector(SELECT, GATE, old_record));
+    board_taken(crep_record_write(new_record, sizeof new_record, 160, -210, (const uint8_t *)"SOUTH", 5));
+    board.polls = BOARD_NEVER;
+    assert_true(memory_write(SELECT, GATE * CREP_RECORD, new_record, CREP_RECORD));
+    assert_memory_equal(sector, old_record, CREP_RECORD);
+    board_cut(0xffff);
+    assert_memory_equal(sector, new_record, 16);
+    assert_memory_equal(sector + 16, old_record + 16, 16);
+    assert_true(memory_read_sector(SELECT, GATE, bytes));
+    assert_memory_equal(bytes, sector, CREP_RECORD);
+}
+
+/* A short load is cut off before it spoils anything: the record is as it was, and PEL is to be set again. */
+static void a_cut_spares_the_sector(void **state)
+{
+    board.chip.part = CREP_X24F128;
+    assert_true(memory_write_sector(SELECT, GATE, *state));
+    board.polls = BOARD_NEVER;
+    assert_true(memory_write(SELECT, GATE * CREP_RECORD, *state, 20));
+    assert_int_equal(board_note(), CREP_NOTE_NOT_32);
+    board_cut(0);
+    assert_memory_equal(board.array + GATE * CREP_RECORD, *state, CREP_RECORD);
+    assert_false(memory_write_sector(SELECT, GATE, *state));
 }
 
 static unsigned first_free(void)
@@ -175,6 +209,20 @@ static void a_full_memory_has_none(void **state)
     assert_map_is_true();
 }
 
+/* The map knows a gate when a byte of it is written, and not before: one place is enough. */
+static void the_map_follows_a_cut(void **state)
+{
+    board.polls = BOARD_NEVER;
+    assert_true(memory_write(SELECT, 0, *state, CREP_RECORD));
+    assert_int_equal(first_free(), 0);
+    board_cut(0);
+    assert_int_equal(first_free(), 0);
+    assert_true(memory_enable(SELECT) && memory_write(SELECT, 0, *state, CREP_RECORD));
+    board_cut(1u << 4);
+    assert_int_equal(first_free(), 1);
+    assert_map_is_true();
+}
+
 /* What was recorded, run by crep_run on a new chip, ends in the same chip and array. */
 static void a_trace_runs_again(void **state)
 {
@@ -185,6 +233,9 @@ static void a_trace_runs_again(void **state)
     board.trace_room = sizeof trace;
     board_new(CREP_X24128, SELECT);
     assert_true(memory_enable(SELECT) && memory_write_sector(SELECT, GATE, *state));
+    board.polls = BOARD_NEVER;
+    assert_true(memory_write(SELECT, 0, *state, CREP_RECORD));
+    board_cut(0xffff);
     memset(array, 0xff, sizeof array);
     board_taken(crep_new(&chip, CREP_X24128, SELECT));
     board_taken(crep_run(&chip, array, sizeof array, trace, board.trace_len, answers, sizeof answers));
@@ -233,8 +284,11 @@ int main(void)
         cmocka_unit_test_setup(a_locked_sector_stays, new_board),
         cmocka_unit_test_setup(the_kit_sends_a_record, new_board),
         cmocka_unit_test_setup(rpel_must_be_clear, new_board),
+        cmocka_unit_test_setup(a_cut_leaves_old_and_new, new_board),
+        cmocka_unit_test_setup(a_cut_spares_the_sector, new_board),
         cmocka_unit_test_setup(gates_are_added_where_it_is_free, new_board),
         cmocka_unit_test_setup(a_full_memory_has_none, new_board),
+        cmocka_unit_test_setup(the_map_follows_a_cut, new_board),
         cmocka_unit_test_setup(a_trace_runs_again, new_board),
         cmocka_unit_test_setup(one_pin_at_a_time, new_board),
     };

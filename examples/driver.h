@@ -25,7 +25,8 @@ int wires_free(void);
 int memory_enable(uint8_t select);      /* sets PEL: data bytes are taken until the next power-up */
 int memory_read(uint8_t select, uint16_t address, uint8_t *bytes, size_t n);
 
-/* An X24F128 acknowledges any n, and spoils the sector where n is not 32. */
+/* Begins a cycle, and memory_wait waits it out: power that fails before its end can leave old bytes beside new ones.
+ * An X24F128 acknowledges any n, and spoils the sector where n is not 32. */
 int memory_write(uint8_t select, uint16_t address, const uint8_t *bytes, size_t n);
 
 /* Asks the chip until it answers again, at most `polls` times. Returns how often it was asked; 0: still busy. */

@@ -33,7 +33,8 @@ static void acknowledged(void)
     sent++;
 }
 
-static void wires(int scl, int sda) { call(crep_event(&chip, array, sizeof array, (uint8_t)(scl | sda << 1), &answer)); }
+static void event(int byte) { call(crep_event(&chip, array, sizeof array, (uint8_t)byte, &answer)); }
+static void wires(int scl, int sda) { event(scl | sda << 1); }
 static void bit(int level) { wires(0, level); wires(1, level); }
 static void send(int byte) { for (int i = 7; i >= 0; i--) bit(byte >> i & 1); bit(1); acknowledged(); }
 
@@ -46,8 +47,9 @@ static int label_on(uint8_t part, const char *name)
     wires(1, 1); wires(1, 0);                       /* START */
     send(0xa0); send(0x00); send(0x06);             /* write, from byte 6 of gate 0: its label */
     for (int i = 0; i < 27; i++) send('A' + i);     /* your firmware's mistake */
-    wires(0, 0); wires(1, 0); wires(1, 1);          /* STOP */
+    wires(0, 0); wires(1, 0); wires(1, 1);          /* STOP: a cycle begins */
     int note = CREP_NOTE(answer), spoilt = note == CREP_NOTE_NOT_32;
+    event(CREP_DONE);                               /* the cycle ends: the array is written now */
     int hit = spoilt || array[0] || array[1] || array[2] || array[3];
     if (!spoilt && note != CREP_NOTE_STORED) wrong("nothing stored, note", note, crep_note_text(note));
     printf("%s: note %d, closed limit %02x %02x: %s\n", name, note, array[0], array[1], !hit ? "as before"

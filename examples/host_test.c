@@ -1,8 +1,8 @@
 /*
  * A firmware's test on the host: the driver of driver.c runs on the board of board.c in place of a panel. It writes a
  * gate's record and reads it back, shows what a label of 27 characters does, hangs the bus and frees it, plays the
- * events of crep_send, and adds a gate in the first free sector. Prints a report; the exit status is 1 where a step did
- * not go as expected, 2 where the test itself went wrong.
+ * events of crep_send, adds a gate in the first free sector, and loses its power in a cycle. Prints a report; the exit
+ * status is 1 where a step did not go as expected, 2 where the test itself went wrong.
  */
 #include <stdio.h>
 #include <string.h>
@@ -251,6 +251,58 @@ static void report_map(void)
     printf("\n");
 }
 
+/* The power fails when the chip is busy with a record for gate 7; until then its sector is as before. */
+static int cut_off(const uint8_t *bytes, uint32_t choices)
+{
+    uint8_t before[CREP_RECORD];
+    int begun;
+
+    memcpy(before, sector, sizeof before);
+    begun = memory_enable(SELECT) && memory_write(SELECT, GATE * CREP_RECORD, bytes, CREP_RECORD)
+        && board_note() == CREP_NOTE_STORED && memcmp(sector, before, sizeof before) == 0;
+    board_cut(choices);
+    return begun;
+}
+
+/* 02h and 06h open the register, 1Ah is BL 3: everything locked. Returns BL after the cut. */
+static int bl_after_cut(uint32_t choices)
+{
+    static const uint8_t bytes[] = { 0x02, 0x06, 0x1a };
+    size_t i;
+
+    for (i = 0; i < sizeof bytes; i++)
+        if (!memory_write(SELECT, 0xffff, bytes + i, 1))
+            return -1;
+    if (board_note() != CREP_NOTE_REGISTER || board.chip.bl != 0)
+        return -1;
+    board_cut(choices);
+    return board.chip.bl;
+}
+
+static void report_cut(void)
+{
+    int32_t closed, opened, travel;
+    uint8_t changed[CREP_RECORD];
+
+    printf("6. The power fails in the cycle\n");
+    board_new(CREP_X24F128, SELECT);
+    memcpy(sector, record, sizeof record);
+    board_map();
+    board.polls = BOARD_NEVER;
+    memcpy(changed, record, sizeof changed);
+    board_taken(crep_record_limits(changed, sizeof changed, 160, -200));
+    step(cut_off(changed, 0) && read_gate(&closed, &opened, &travel) == CREP_OK && closed == 150,
+         "a new closed limit, 160, is sent and no byte of it written: the gate has the old record");
+    step(cut_off(changed, 0xffff) && read_gate(&closed, &opened, &travel) == CREP_REFUSED_SUM,
+         "again, and bytes 0 to 15 are written: the kit refuses to read it (13, sum wrong)");
+    show_sector();
+    step(cut_off(changed, 0xffffffffu) && read_gate(&closed, &opened, &travel) == CREP_OK && closed == 160,
+         "again, and all 32 are written: the gate has the new record");
+    step(bl_after_cut(0) == 0 && bl_after_cut(1) == 3,
+         "a register byte that locks everything is taken whole or not at all");
+    printf("\n");
+}
+
 int main(void)
 {
     printf("Gate memory on the bench: X24128, select %d, gate %d in sector %d\n\n", SELECT, GATE, GATE);
@@ -262,6 +314,7 @@ int main(void)
     report_hang();
     report_sender();
     report_map();
+    report_cut();
     if (wrong)
         printf("%d steps WRONG\n", wrong);
     else

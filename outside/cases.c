@@ -1,7 +1,7 @@
 /*
  * The paper's worked cases 1 to 13, its errors that look right, demand 3 on random noise, and what the requests for the
- * sender, for short loads and for the map say, on the model and on the library. What is expected stands here as the
- * paper gives it.
+ * sender, for short loads, for the map and for power cuts say, on the model and on the library. What is expected stands
+ * here as the paper gives it.
  */
 #include <stdio.h>
 #include <string.h>
@@ -44,6 +44,24 @@ static int last_note(void)
     if (bench.kit->run(&bench.chip, bench.array, CREP_ARRAY, bench.trace, n, bench.answers, CREP_TRACE) != 0)
         return -1;
     return n ? CREP_NOTE(bench.answers[n - 1]) : 0;
+}
+
+/* Runs one event; its note, or -1 where it is refused. */
+static int note_of(uint8_t event)
+{
+    uint8_t answer;
+
+    return bench.kit->event(&bench.chip, bench.array, CREP_ARRAY, event, &answer) == 0 ? CREP_NOTE(answer) : -1;
+}
+
+/* Whether every byte of the array is this one. */
+static int array_is(uint8_t byte)
+{
+    int i;
+
+    for (i = 0; i < CREP_ARRAY && bench.array[i] == byte; i++)
+        ;
+    return i == CREP_ARRAY;
 }
 
 /* The byte whose eight clocks begin at event `at`: the line in each high half. */
@@ -151,7 +169,7 @@ static int limits_keep_the_label(const struct kit *kit)
         && kit->record_limits(record, 32, 0, 1200) == 0 && memcmp(record, wanted, 32) == 0;
 }
 
-/* 6. X24128, unlocked, PEL 1, 27 bytes at 0006h: bytes 6-31 and byte 0 change, counter 0001h. */
+/* 6. X24128, unlocked, PEL 1, 27 bytes at 0006h, program-done: bytes 6-31 and byte 0 change, counter 0001h. */
 static int case_6(const struct kit *kit)
 {
     static uint8_t wanted[CREP_ARRAY];
@@ -159,12 +177,14 @@ static int case_6(const struct kit *kit)
     memset(wanted, 0xff, sizeof wanted);
     memset(wanted + 6, 0, 26);
     wanted[0] = 0;
-    return notes_of_writes(kit, 0, 0, 6, 27) == 1 && memcmp(bench.array, wanted, CREP_ARRAY) == 0
-        && counter_of(&bench.chip) == 1 && bench.chip.busy;
+    return notes_of_writes(kit, 0, 0, 6, 27) == 1 && array_is(0xff) && counter_of(&bench.chip) == 1 && bench.chip.busy
+        && note_of(8) == 0 && memcmp(bench.array, wanted, CREP_ARRAY) == 0
+        && counter_of(&bench.chip) == 1 && !bench.chip.busy;
 }
 
 /* n bytes 00h from an address of an X24F128 on, with PEL and RPEL 1 and an array of 77h: whether the note is this one,
- * the sector then holds `byte` and 77h stands beside it, and notes 1 and 5 alone begin a cycle and clear RPEL. */
+ * notes 1 and 5 alone begin a cycle and clear RPEL, no byte is written, and after a program-done the sector holds
+ * `byte` and 77h stands beside it. */
 static int leaves(const struct kit *kit, uint8_t bl, uint8_t spoil, unsigned address, size_t n, int note, uint8_t byte)
 {
     static const uint8_t bytes[64];
@@ -180,13 +200,14 @@ static int leaves(const struct kit *kit, uint8_t bl, uint8_t spoil, unsigned add
     memset(wanted, 0x77, CREP_ARRAY);
     memset(wanted + sector, byte, 32);
     wire_write(&bench.wire, 0, address, bytes, n);
-    return last_note() == note && memcmp(bench.array, wanted, CREP_ARRAY) == 0
+    return last_note() == note && array_is(0x77)
         && bench.chip.busy == cycle && bench.chip.rpel == !cycle && bench.chip.pel && bench.chip.spoil == spoil
         && bench.chip.phase == CREP_PHASE_STANDBY && bench.chip.count == 0
-        && counter_of(&bench.chip) == sector + (address + n) % 32;
+        && counter_of(&bench.chip) == sector + (address + n) % 32
+        && note_of(8) == 0 && !bench.chip.busy && memcmp(bench.array, wanted, CREP_ARRAY) == 0;
 }
 
-/* 7. X24F128: 31 bytes note 5, 32 note 1, 33 note 5; the first and the last leave 32 spoil bytes. */
+/* 7. X24F128: 31 bytes note 5, 32 note 1, 33 note 5; after program-done the first and the last leave 32 spoil bytes. */
 static int case_7(const struct kit *kit)
 {
     static const uint8_t spoils[] = { 0xff, 0x00, 0xa5, 0x3c };
@@ -220,16 +241,18 @@ static int short_loads_that_stay(const struct kit *kit)
 /* An X24128 takes any count, and a register byte is no short load. */
 static int what_never_spoils(const struct kit *kit)
 {
-    int good = notes_of_writes(kit, 0, 0, 0x100, 31) == 1 && bench.array[0x11e] == 0x00 && bench.array[0x11f] == 0xff
-        && notes_of_writes(kit, 0, 0, 0x100, 33) == 1 && bench.array[0x11f] == 0x00 && bench.array[0x120] == 0xff;
+    int good = notes_of_writes(kit, 0, 0, 0x100, 31) == 1 && note_of(8) == 0
+        && bench.array[0x11e] == 0x00 && bench.array[0x11f] == 0xff
+        && notes_of_writes(kit, 0, 0, 0x100, 33) == 1 && note_of(8) == 0
+        && bench.array[0x11f] == 0x00 && bench.array[0x120] == 0xff;
 
     open_bench(kit, CREP_X24F128);
     bench.chip.spoil = 0x3c;
     wire_register(&bench.wire, 0, 0x02);
-    return good && last_note() == 3 && bench.array[0] == 0xff && !bench.chip.busy;
+    return good && last_note() == 3 && note_of(8) == 0 && bench.array[0] == 0xff && !bench.chip.busy;
 }
 
-/* FFh in a new chip of either part and in that of refusal 3; program-done, power-up and a recovery keep any other. */
+/* FFh in a new chip of either part and in that of refusal 3; program-done, power-ups and a recovery keep any other. */
 static int spoil_is_kept(const struct kit *kit)
 {
     uint8_t pulses;
@@ -237,10 +260,7 @@ static int spoil_is_kept(const struct kit *kit)
         && bench.chip.spoil == 0xff && kit->make(&bench.chip, 2, 0) == 3 && bench.chip.spoil == 0xff
         && leaves(kit, 0, 0x3c, 0x0100, 31, 5, 0x3c);
 
-    wire_open(&bench.wire, bench.trace, sizeof bench.trace);
-    wire_event(&bench.wire, 8);
-    wire_event(&bench.wire, 9);
-    good = good && last_note() == 0 && bench.chip.spoil == 0x3c && !bench.chip.busy;
+    good = good && note_of(9) == 0 && note_of(10) == 0 && note_of(11) == 0 && bench.chip.spoil == 0x3c;
     return good && kit->recover(&bench.chip, bench.array, CREP_ARRAY, 0, &pulses) == 0 && bench.chip.spoil == 0x3c;
 }
 
@@ -268,7 +288,7 @@ static int case_8(const struct kit *kit)
     int part, good = 1;
 
     for (part = 0; part < 2; part++)
-        good = good && notes_of_writes(kit, (uint8_t)part, 1, 0x3000, 32) == 4 && bench.array[0x3000] == 0xff
+        good = good && notes_of_writes(kit, (uint8_t)part, 1, 0x3000, 32) == 4 && note_of(8) == 0 && array_is(0xff)
             && notes_of_writes(kit, (uint8_t)part, 1, 0x2fff, 32) == 1
             && notes_of_writes(kit, (uint8_t)part, 2, 0x2000, 32) == 4
             && notes_of_writes(kit, (uint8_t)part, 2, 0x1fff, 32) == 1
@@ -363,7 +383,7 @@ static int stop_needs_one_bit(const struct kit *kit)
     bench.chip.scl = 1;
     bench.chip.line = 0;
     wire_sample(&bench.wire, 1, 1);
-    return last_note() == 7 && bench.array[0] == 0xff && notes_of_writes(kit, 0, 0, 0, 1) == 1;
+    return last_note() == 7 && note_of(8) == 0 && bench.array[0] == 0xff && notes_of_writes(kit, 0, 0, 0, 1) == 1;
 }
 
 /* The pin counts at the STOP, not when PPEN was set: low in the data, high in the last sample. */
@@ -382,17 +402,17 @@ static int pin_is_read_at_the_stop(const struct kit *kit)
     return pin_at_the_stop(kit, 1) == 6 && pin_at_the_stop(kit, 0) == 2;
 }
 
-/* Random events with the pin high; power-ups among them. */
+/* Random events with the pin high; power-ups of all kinds among them. */
 static void noise(struct chance *chance, size_t n)
 {
     size_t i;
 
     for (i = 0; i < n; i++)
-        wire_event(&bench.wire, (uint8_t)(chance_once_in(chance, 500) ? 8 + chance_below(chance, 2)
+        wire_event(&bench.wire, (uint8_t)(chance_once_in(chance, 500) ? 8 + chance_below(chance, 4)
                                                                          : 4 + chance_below(chance, 4)));
 }
 
-/* Messages that try to unlock, to write and to spoil, with the pin high, each with its program-done. */
+/* Messages that try to unlock, to write and to spoil, with the pin high, each with its program-done or a power-up. */
 static void attack(struct chance *chance)
 {
     static const uint8_t commands[] = { 0x02, 0x06, 0x02 };
@@ -406,12 +426,12 @@ static void attack(struct chance *chance)
             wire_event(&bench.wire, 8);
         }
         wire_write(&bench.wire, bench.chip.select, chance_below(chance, 0x4000), bytes, i % 2 ? 31 : 32);
-        wire_event(&bench.wire, 8);
+        wire_event(&bench.wire, (uint8_t)(8 + chance_below(chance, 4)));
         noise(chance, chance_below(chance, 40));
     }
 }
 
-/* A chip with PPEN set and a region locked, and its noise. Returns the first locked address. */
+/* A chip that is not busy, with PPEN set and a region locked, and its noise. Returns the first locked address. */
 static unsigned noisy_bench(const struct kit *kit, struct chance *chance)
 {
     static const unsigned first[4] = { 0x4000, 0x3000, 0x2000, 0x0000 };
@@ -441,12 +461,12 @@ static int read_on(unsigned address, unsigned n)
 static int one_demand_3(const struct kit *kit, struct chance *chance)
 {
     static uint8_t before[CREP_ARRAY];
-    uint8_t pulses, answer;
+    uint8_t pulses;
     unsigned first = noisy_bench(kit, chance), n = 1 + chance_below(chance, 8), i;
     unsigned address = first + chance_below(chance, 0x4000 - first - n + 1);
 
     memcpy(before, bench.array, CREP_ARRAY);
-    if (last_note() < 0 || kit->event(&bench.chip, bench.array, CREP_ARRAY, 8, &answer) != 0)
+    if (last_note() < 0 || note_of(8) != 0)
         return 0;
     if (kit->recover(&bench.chip, bench.array, CREP_ARRAY, 1, &pulses) != 0 || pulses < 1 || pulses > 10)
         return 0;
@@ -467,6 +487,31 @@ static int demand_3(const struct kit *kit)
         if (!one_demand_3(kit, &chance))
             return 0;
     return 1;
+}
+
+/* Why it starts from a chip that is not busy: BL 0 and PPEN 0 that wait unlock the array at the first program-done, and
+ * a message with the pin high then changes a byte that was locked; not so where a cut drops them. */
+static int busy_start_may_unlock(const struct kit *kit)
+{
+    static const uint8_t bytes[32] = { 0 };
+    uint8_t end;
+    int good = 1;
+
+    for (end = 8; end < 12; end++) {
+        int unlocked = end != 10;
+
+        open_bench(kit, CREP_X24F128);
+        bench.chip.ppen = bench.chip.busy = 1;
+        bench.chip.bl = 3;
+        bench.chip.wait = 2;
+        bench.wire.pin = 1;
+        wire_event(&bench.wire, end);
+        wire_register(&bench.wire, 0, 0x02);
+        wire_write(&bench.wire, 0, 0x0100, bytes, 32);
+        good = good && last_note() == (unlocked ? 1 : 4) && bench.chip.bl == (unlocked ? 0 : 3) && note_of(8) == 0
+            && bench.array[0x100] == (unlocked ? 0x00 : 0xff);
+    }
+    return good;
 }
 
 /* ---- The sender ---- */
@@ -697,7 +742,7 @@ static int map_follows(const struct kit *kit)
     return good && mapped_write(0x3fff, 0x22, 32) == 1 && first_free(kit) == 512;
 }
 
-/* Locked, latch, register cycle, program-done and power-up change no bit, not even a wrong one. */
+/* Locked, latch, register cycle, its program-done and a power-up change no bit, not even a wrong one. */
 static int map_stays(const struct kit *kit)
 {
     static const uint8_t commands[] = { 0x02, 0x06, 0x8a };
@@ -754,13 +799,13 @@ static int map_refuses(const struct kit *kit)
     static const size_t lengths[] = { 0, 63, 65 };
     uint16_t sector;
     size_t i;
-    int good = map_refusal(kit, 16383, 63, 4, 10, 0) == 1 && map_refusal(kit, 16385, 64, 0, 3, 1) == 1
-        && map_refusal(kit, 16384, 64, 4, 10, 0) == 2 && map_refusal(kit, 16384, 64, 3, 10, 0) == 5
-        && map_refusal(kit, 16384, 64, 3, 10, 1) == 6;
+    int good = map_refusal(kit, 16383, 63, 4, 12, 0) == 1 && map_refusal(kit, 16385, 64, 0, 3, 1) == 1
+        && map_refusal(kit, 16384, 64, 4, 12, 0) == 2 && map_refusal(kit, 16384, 64, 3, 12, 0) == 5
+        && map_refusal(kit, 16384, 64, 3, 12, 1) == 6;
 
     for (i = 0; i < 3; i++) {
         sector = 7;
-        good = good && map_refusal(kit, 16384, lengths[i], 4, 10, 0) == 18
+        good = good && map_refusal(kit, 16384, lengths[i], 4, 12, 0) == 18
             && map_refusal(kit, 16384, lengths[i], 0, 3, 1) == 18 && map_refusal(kit, 0, lengths[i], 0, 3, 1) == 1
             && kit->map_first(map, lengths[i], &sector) == 18 && sector == 512
             && kit->map_build(bench.array, CREP_ARRAY, map, lengths[i]) == 18
@@ -787,6 +832,385 @@ static int gates_are_added(const struct kit *kit)
         && kit->send(0, sector, north, sizeof north, bench.trace, CREP_TRACE, &events) == 15;
 }
 
+/* ---- Power lost in the cycle ---- */
+
+/* A chip with RPEL and PEL 1 on an array of 77h that gets n bytes from 40h up at an address. Returns the note. */
+static int begin(const struct kit *kit, uint8_t part, unsigned address, size_t n)
+{
+    uint8_t bytes[32];
+    int i;
+
+    for (i = 0; i < 32; i++)
+        bytes[i] = (uint8_t)(0x40 + i);
+    open_bench(kit, part);
+    bench.chip.pel = bench.chip.rpel = 1;
+    bench.chip.spoil = 0x3c;
+    memset(bench.array, 0x77, CREP_ARRAY);
+    wire_write(&bench.wire, 0, address, bytes, n);
+    return last_note();
+}
+
+/* The fields of the wait are the last ones. */
+enum { WAIT = offsetof(struct crep_chip, wait), WAIT_BYTES = CREP_STATE - WAIT };
+
+static uint8_t *wait_of(struct crep_chip *chip)
+{
+    return (uint8_t *)chip + WAIT;
+}
+
+static int nothing_waits(struct crep_chip *chip)
+{
+    static const uint8_t none[WAIT_BYTES];
+
+    return memcmp(wait_of(chip), none, WAIT_BYTES) == 0;
+}
+
+/* Whether sector 1FFh holds 40h and up where the bit of `written` is set, else 77h, as all beside it. */
+static int top_holds(uint32_t written)
+{
+    int i;
+
+    for (i = 0; i < 32; i++) {
+        if (bench.array[0x3fe0 + i] != (written >> i & 1 ? 0x40 + i : 0x77))
+            return 0;
+        bench.array[0x3fe0 + i] = 0x77;
+    }
+    return array_is(0x77);
+}
+
+/* A STOP makes a sector wait, its loaded places with their bytes, the others with 0, and writes nothing. */
+static int stop_makes_it_wait(const struct kit *kit)
+{
+    int i, good = begin(kit, 0, 0x3fe5, 3) == 1 && array_is(0x77);
+    struct crep_chip chip = bench.chip;
+
+    good = good && chip.busy && !chip.rpel && chip.pel && chip.count == 0 && chip.wait == 1 && chip.wait_high == 1
+        && chip.wait_low == 0xff && chip.wait_ppen == 0 && chip.wait_bl == 0;
+    for (i = 0; i < 32; i++) {
+        int loaded = i >= 5 && i < 8;
+
+        good = good && chip.wait_places[i] == loaded && chip.wait_bytes[i] == (loaded ? 0x3b + i : 0)
+            && chip.places[i] == 0 && chip.load[i] == 0;
+    }
+    good = good && begin(kit, 1, 0x0100, 31) == 5 && array_is(0x77) && bench.chip.wait == 1 && bench.chip.wait_low == 8;
+    for (i = 0; i < 32; i++)
+        good = good && bench.chip.wait_places[i] == 1 && bench.chip.wait_bytes[i] == 0x3c;
+    return good;
+}
+
+/* A program-done writes it, ends busy and changes nothing else; a second one does nothing. */
+static int done_writes(const struct kit *kit)
+{
+    int good = begin(kit, 1, 0x3fe0, 32) == 1;
+    struct crep_chip chip = bench.chip;
+
+    good = good && note_of(8) == 0 && nothing_waits(&bench.chip);
+    chip.busy = 0;
+    memset(wait_of(&chip), 0, WAIT_BYTES);
+    good = good && memcmp(&chip, &bench.chip, sizeof chip) == 0 && note_of(8) == 0
+        && memcmp(&chip, &bench.chip, sizeof chip) == 0;
+    return good && top_holds(0xffffffff);
+}
+
+/* A power-up with these choices; whether it says line high, note 0, and leaves a chip as new but for its spoil byte. */
+static int cut_off(const struct kit *kit, uint32_t choices)
+{
+    struct crep_chip chip;
+    uint8_t answer = 0;
+
+    kit->make(&chip, bench.chip.part, 0);
+    chip.spoil = bench.chip.spoil;
+    return kit->power_up(&bench.chip, bench.array, CREP_ARRAY, choices, &answer) == 0 && answer == 1
+        && memcmp(&chip, &bench.chip, sizeof chip) == 0;
+}
+
+/* 9 writes all 32 places, 10 none, 11 places 0 to 15; after 10 a short load leaves the old bytes, after 11 half. */
+static int three_cuts(const struct kit *kit)
+{
+    static const uint32_t written[] = { 0xffffffff, 0, 0x0000ffff };
+    uint8_t event;
+    int i, good = 1;
+
+    for (event = 9; event < 12; event++) {
+        good = good && begin(kit, 1, 0x3fe0, 32) == 1 && note_of(event) == 0 && nothing_waits(&bench.chip)
+            && !bench.chip.busy && !bench.chip.pel && top_holds(written[event - 9]);
+        good = good && begin(kit, 1, 0x3fe0, 31) == 5 && note_of(event) == 0;
+        for (i = 0; i < 32; i++)
+            good = good && bench.array[0x3fe0 + i] == (written[event - 9] >> i & 1 ? 0x3c : 0x77);
+    }
+    return good;
+}
+
+/* Each choice is its own place's; a place that is not loaded stays, chosen or not. */
+static int choices_by_place(const struct kit *kit)
+{
+    int k, good = 1;
+
+    for (k = 0; k < 32; k++)
+        good = good && begin(kit, 1, 0x3fe0, 32) == 1 && cut_off(kit, 1u << k) && top_holds(1u << k)
+            && begin(kit, 1, 0x3fe0, 32) == 1 && cut_off(kit, ~(1u << k)) && top_holds(~(1u << k));
+    return good && begin(kit, 0, 0x3fe0, 3) == 1 && cut_off(kit, 0xffffffff) && top_holds(7)
+        && begin(kit, 0, 0x3fe0, 3) == 1 && cut_off(kit, 0xfffffff8) && top_holds(0)
+        && begin(kit, 0, 0x3fe0, 20) == 1 && note_of(11) == 0 && top_holds(0x0000ffff);
+}
+
+/* PPEN 1 and BL 2 wait; whether they are taken by the end that comes, an event, or choices where it is 0. */
+static int register_taken(const struct kit *kit, uint8_t event, uint32_t choices)
+{
+    uint8_t answer;
+
+    open_bench(kit, 0);
+    bench.chip.pel = bench.chip.rpel = bench.chip.bl = 1;
+    wire_register(&bench.wire, 0, 0x92);
+    if (last_note() != 2 || bench.chip.wait != 2 || !bench.chip.wait_ppen || bench.chip.wait_bl != 2)
+        return -1;
+    if (bench.chip.ppen || bench.chip.bl != 1 || bench.chip.rpel || !bench.chip.busy)
+        return -1;
+    if (event ? note_of(event) != 0 : kit->power_up(&bench.chip, bench.array, CREP_ARRAY, choices, &answer) != 0)
+        return -1;
+    if (!nothing_waits(&bench.chip) || bench.chip.busy || bench.chip.pel != (event == 8) || !array_is(0xff))
+        return -1;
+    return bench.chip.ppen == (bench.chip.bl == 2) ? bench.chip.ppen : -1;
+}
+
+/* Choice 0 takes both bits, no other choice any: 8, 9 and 11 take them, 10 does not. */
+static int register_byte_is_cut(const struct kit *kit)
+{
+    return register_taken(kit, 8, 0) == 1 && register_taken(kit, 9, 0) == 1 && register_taken(kit, 10, 0) == 0
+        && register_taken(kit, 11, 0) == 1 && register_taken(kit, 0, 1) == 1 && register_taken(kit, 0, 0) == 0
+        && register_taken(kit, 0, 0xfffffffe) == 0 && register_taken(kit, 0, 0xffffffff) == 1;
+}
+
+/* Idle with something waiting: done does nothing, each power-up drops it, a new cycle overwrites it. Busy with nothing
+ * waiting: done ends busy and that alone. */
+static int waits_of_a_caller(const struct kit *kit)
+{
+    uint8_t event;
+    int good = begin(kit, 1, 0x3fe0, 32) == 1;
+    struct crep_chip chip = bench.chip;
+
+    bench.chip.busy = chip.busy = 0;
+    good = good && note_of(8) == 0 && memcmp(&chip, &bench.chip, sizeof chip) == 0 && array_is(0x77);
+    for (event = 9; event < 12; event++) {
+        bench.chip = chip;
+        good = good && note_of(event) == 0 && nothing_waits(&bench.chip) && array_is(0x77);
+    }
+    bench.chip = chip;
+    wire_open(&bench.wire, bench.trace, sizeof bench.trace);
+    wire_register(&bench.wire, 0, 0x06);
+    wire_register(&bench.wire, 0, 0x0a);
+    good = good && last_note() == 2 && bench.chip.wait == 2 && bench.chip.wait_bl == 1 && bench.chip.wait_low == 0
+        && bench.chip.wait_places[0] == 0 && note_of(8) == 0 && bench.chip.bl == 1 && array_is(0x77);
+    open_bench(kit, 1);
+    chip = bench.chip;
+    bench.chip.busy = 1;
+    return good && note_of(8) == 0 && memcmp(&chip, &bench.chip, sizeof chip) == 0 && array_is(0xff);
+}
+
+/* The note of a message to a chip with these bits in force and others waiting. */
+static int note_in_force(const struct kit *kit, uint8_t bits, uint8_t waiting, unsigned address, uint8_t byte)
+{
+    static uint8_t bytes[32];
+
+    open_bench(kit, 1);
+    bench.chip.pel = bench.chip.rpel = 1;
+    bench.chip.ppen = bits >> 7;
+    bench.chip.bl = bits >> 3 & 3;
+    bench.chip.wait = 2;
+    bench.chip.wait_ppen = waiting >> 7;
+    bench.chip.wait_bl = waiting >> 3 & 3;
+    bench.wire.pin = 1;
+    bytes[0] = byte;
+    wire_write(&bench.wire, 0, address, bytes, address == 0xffff ? 1 : 32);
+    return last_note();
+}
+
+/* Locks, the pin's protection and a read of the register look at the bits in force; what waits is read by nobody. */
+static int bits_in_force(const struct kit *kit)
+{
+    size_t at;
+    int good = note_in_force(kit, 0x18, 0x00, 0x0000, 0) == 4 && note_in_force(kit, 0x00, 0x18, 0x0000, 0) == 1
+        && note_in_force(kit, 0x80, 0x00, 0xffff, 0x02) == 6 && note_in_force(kit, 0x00, 0x80, 0xffff, 0x02) == 2;
+
+    open_bench(kit, 1);
+    bench.chip.mark = bench.chip.bl = 1;
+    bench.chip.wait = 2;
+    bench.chip.wait_ppen = 1;
+    bench.chip.wait_bl = 2;
+    wire_start(&bench.wire);
+    wire_send(&bench.wire, 0xa1);
+    at = bench.wire.len;
+    wire_receive(&bench.wire, 0);
+    return good && last_note() == 0 && byte_at(at) == 0x08 && bench.chip.wait == 2;
+}
+
+/* The refusal of a chip, busy or not, by each call that takes one; 255 where they differ. */
+static int wait_refusal(const struct kit *kit, const struct crep_chip *chip)
+{
+    struct crep_chip copies[4];
+    uint8_t refusals[4], number, i;
+
+    for (i = 0; i < 4; i++) {
+        copies[i] = *chip;
+        copies[i].busy = i & 1;
+    }
+    refusals[0] = kit->event(&copies[0], bench.array, CREP_ARRAY, 10, &number);
+    refusals[1] = kit->run(&copies[1], bench.array, CREP_ARRAY, bench.trace, 0, bench.answers, 0);
+    refusals[2] = kit->power_up(&copies[2], bench.array, CREP_ARRAY, 0, &number);
+    refusals[3] = kit->recover(&copies[3], bench.array, CREP_ARRAY, 0, &number);
+    for (i = 1; i < 4; i++)
+        if (refusals[i] != refusals[0])
+            return 255;
+    return refusals[0];
+}
+
+/* A new chip in which a kind waits, with one of its numbers at an edge: `field` counts from `wait` on. */
+static int edge(const struct kit *kit, uint8_t wait, size_t field, uint8_t value)
+{
+    open_bench(kit, 0);
+    bench.chip.wait = wait;
+    wait_of(&bench.chip)[field] = value;
+    return wait_refusal(kit, &bench.chip);
+}
+
+/* A kind above 2, a sector above 511, a place that is no flag, a PPEN that is none, a BL above 3; and none of these
+ * where the kind does not carry it. */
+static int wait_out_of_range(const struct kit *kit)
+{
+    int good = edge(kit, 0, 0, 3) == 2 && edge(kit, 0, 0, 255) == 2
+        && edge(kit, 1, 1, 1) == 0 && edge(kit, 1, 1, 2) == 2 && edge(kit, 1, 2, 255) == 0
+        && edge(kit, 1, 5, 2) == 2 && edge(kit, 1, 36, 2) == 2 && edge(kit, 1, 37, 2) == 0
+        && edge(kit, 2, 3, 1) == 0 && edge(kit, 2, 3, 2) == 2 && edge(kit, 2, 4, 3) == 0 && edge(kit, 2, 4, 4) == 2;
+    size_t field;
+
+    for (field = 1; field < WAIT_BYTES; field++)
+        good = good && edge(kit, 0, field, 255) == 0 && (field < 3 || field > 4 || edge(kit, 1, field, 255) == 0)
+            && (field == 3 || field == 4 || edge(kit, 2, field, 255) == 0);
+    return good;
+}
+
+/* What the kind does not carry is 0 after any call that is not refused; an empty trace is one. */
+static int wait_is_tidied(const struct kit *kit)
+{
+    uint8_t wait;
+    int good = 1;
+
+    for (wait = 0; wait < 3; wait++) {
+        open_bench(kit, 0);
+        memset(wait_of(&bench.chip), 1, WAIT_BYTES);
+        bench.chip.wait = wait;
+        good = good && last_note() == 0 && bench.chip.wait == wait && bench.chip.wait_high == (wait == 1)
+            && bench.chip.wait_low == (wait == 1) && bench.chip.wait_places[31] == (wait == 1)
+            && bench.chip.wait_bytes[31] == (wait == 1) && bench.chip.wait_ppen == (wait == 2)
+            && bench.chip.wait_bl == (wait == 2);
+    }
+    return good;
+}
+
+/* A recovery of a busy chip: one pulse, nothing written, what waits stays. */
+static int recovery_leaves_the_wait(const struct kit *kit)
+{
+    struct crep_chip chip;
+    uint8_t pulses;
+    int good = begin(kit, 1, 0x3fe0, 32) == 1;
+
+    chip = bench.chip;
+    good = good && kit->recover(&bench.chip, bench.array, CREP_ARRAY, 0, &pulses) == 0 && pulses == 1 && array_is(0x77)
+        && memcmp(wait_of(&bench.chip), wait_of(&chip), WAIT_BYTES) == 0;
+    return good && note_of(8) == 0 && top_holds(0xffffffff);
+}
+
+/* A sending cut off before its program-done leaves the sector old or new, byte by byte, and all other sectors. */
+static int sender_is_cut_off(const struct kit *kit)
+{
+    static const uint32_t choices[] = { 0, 0x0000ffff, 0xffffffff, 0x80000001, 0x12345678 };
+    size_t i;
+    int k, good = 1;
+
+    for (i = 0; i < sizeof choices / sizeof choices[0]; i++) {
+        good = good && open_send(kit, (uint8_t)(i & 1), 0, 511) == 0;
+        memset(bench.array, 0x77, CREP_ARRAY);
+        bench.wire.len--;
+        good = good && last_note() == 1 && array_is(0x77) && cut_off(kit, choices[i]);
+        for (k = 0; k < 32; k++) {
+            good = good && bench.array[0x3fe0 + k] == (choices[i] >> k & 1 ? north[k] : 0x77);
+            bench.array[0x3fe0 + k] = 0x77;
+        }
+        good = good && array_is(0x77);
+    }
+    return good;
+}
+
+/* The map stays at the STOP and follows the end of the cycle: a sector is taken where a byte was written that is not
+ * FFh, not where a cut wrote nothing; a wrong bit of it is then right, and every other bit stays, right or wrong. */
+static int map_follows_cuts(const struct kit *kit)
+{
+    static const struct { uint8_t end; uint32_t choices; unsigned first; } ends[] = {
+        { 8, 0, 1 }, { 9, 0, 1 }, { 10, 0, 0 }, { 11, 0, 1 }, { 0, 0, 0 }, { 0, 0x80000000, 1 }, { 0, 0xffffffff, 1 },
+    };
+    static uint8_t bytes[32];
+    uint8_t answer;
+    size_t i;
+    int k, good = 1;
+
+    for (i = 0; i < sizeof ends / sizeof ends[0]; i++) {
+        good = good && open_map(kit, 1, 0xff);
+        bench.chip.pel = 1;
+        wire_write(&bench.wire, 0, 0, bytes, 32);
+        good = good && mapped_note() == 1 && first_free(kit) == 0;
+        memset(map, 0xff, CREP_MAP);
+        if (ends[i].end)
+            good = good && kit->map_event(&bench.chip, bench.array, CREP_ARRAY, map, CREP_MAP, ends[i].end,
+                                          &answer) == 0;
+        else
+            good = good && kit->map_power_up(&bench.chip, bench.array, CREP_ARRAY, map, CREP_MAP, ends[i].choices,
+                                             &answer) == 0;
+        good = good && answer == 1;
+        good = good && map[0] == 0xfe + ends[i].first;
+        for (k = 1; k < CREP_MAP; k++)
+            good = good && map[k] == 0xff;
+    }
+    return good;
+}
+
+/* Power-up with choices refuses 1, 2, with a map 1, 18, 2; the answer is 1 in each case and nothing is written. */
+static int power_up_refuses(const struct kit *kit)
+{
+    static const struct { size_t array_len, map_len; uint8_t bl, plain, mapped; } calls[] = {
+        { 16383, 63, 4, 1, 1 }, { 16385, 64, 0, 1, 1 }, { 16384, 63, 4, 2, 18 }, { 16384, 65, 3, 0, 18 },
+        { 16384, 64, 4, 2, 2 },
+    };
+    struct crep_chip chip;
+    uint8_t first, second;
+    size_t i;
+    int good = 1;
+
+    for (i = 0; i < sizeof calls / sizeof calls[0]; i++) {
+        open_bench(kit, 0);
+        memset(map, 0x5a, sizeof map);
+        bench.chip.busy = bench.chip.wait = bench.chip.wait_places[0] = 1;
+        bench.chip.bl = calls[i].bl;
+        chip = bench.chip;
+        first = second = 0;
+        good = good && kit->map_power_up(&bench.chip, bench.array, calls[i].array_len, map, calls[i].map_len,
+                                         0xffffffff, &first) == calls[i].mapped && first == 1 && nothing_written(&chip);
+        good = good && kit->power_up(&bench.chip, bench.array, calls[i].array_len, 0xffffffff,
+                                     &second) == calls[i].plain
+            && second == 1 && (calls[i].plain == 0 || nothing_written(&chip));
+    }
+    return good;
+}
+
+/* Event bytes are taken up to 11; 12 is refused with 6. */
+static int event_12_is_refused(const struct kit *kit)
+{
+    open_bench(kit, 0);
+    wire_event(&bench.wire, 11);
+    wire_event(&bench.wire, 12);
+    return last_note() == -1 && note_of(12) == -1 && note_of(10) == 0 && note_of(11) == 0
+        && kit->run(&bench.chip, bench.array, CREP_ARRAY, bench.trace, 2, bench.answers, 2) == 6;
+}
+
 /* ---- The header ---- */
 
 /* CREP_VERSION_NUMBER is CREP_VERSION by its own rule; each refusal has a text. */
@@ -795,8 +1219,9 @@ static int header_agrees(const struct kit *kit)
     int first, second, third;
 
     (void)kit;
-    return strcmp(CREP_VERSION, "0.6.0") == 0 && sscanf(CREP_VERSION, "%d.%d.%d", &first, &second, &third) == 3
+    return strcmp(CREP_VERSION, "0.7.0") == 0 && sscanf(CREP_VERSION, "%d.%d.%d", &first, &second, &third) == 3
         && CREP_VERSION_NUMBER == 10000 * first + 100 * second + third
+        && strcmp(crep_refusal_text(6), "an event byte above 11") == 0
         && strcmp(crep_refusal_text(17), "buffer shorter than 713 events") == 0
         && strcmp(crep_refusal_text(18), "map is not 64 bytes") == 0
         && strcmp(crep_refusal_text(19), "no such refusal") == 0;
@@ -828,6 +1253,7 @@ static const struct {
     { "-   the pin is read at the STOP", pin_is_read_at_the_stop },
     { "-   new limits keep the label", limits_keep_the_label },
     { "-   demand 3 on 500 random noises", demand_3 },
+    { "-   a waiting BL 0 unlocks: why it starts idle", busy_start_may_unlock },
     { "-   gate 17 sent: 713 events, notes at 76 and 711", gate_17_is_sent },
     { "-   BL 1: gate 384 stays, note 4; 383 is sent", locked_gates_stay },
     { "-   RPEL 1: the sender unlocks and stores nothing", rpel_unlocks },
@@ -838,6 +1264,20 @@ static const struct {
     { "-   the map stays in all other events", map_stays },
     { "-   what the calls with a map refuse, and the order", map_refuses },
     { "-   512 gates added where the map says; then none", gates_are_added },
+    { "-   a STOP makes it wait and writes nothing", stop_makes_it_wait },
+    { "-   program-done writes what waits", done_writes },
+    { "-   events 9, 10, 11: all, none, places 0-15", three_cuts },
+    { "-   each choice is its own place's", choices_by_place },
+    { "-   choice 0 takes a register byte: 11 does, 10 not", register_byte_is_cut },
+    { "-   idle with a wait, busy with none", waits_of_a_caller },
+    { "-   locks, pin and read: the bits in force", bits_in_force },
+    { "-   a wait out of its range, where it is carried", wait_out_of_range },
+    { "-   what its kind does not carry comes back as 0", wait_is_tidied },
+    { "-   a recovery leaves what waits", recovery_leaves_the_wait },
+    { "-   the sender cut off: old or new, byte by byte", sender_is_cut_off },
+    { "-   the map follows the end of a cycle, each cut", map_follows_cuts },
+    { "-   what power-ups with choices refuse", power_up_refuses },
+    { "-   event 11 is taken, 12 refused", event_12_is_refused },
     { "-   the header's version and refusal texts", header_agrees },
 };
 

@@ -1,6 +1,7 @@
 /*
  * Compares the library with the independent model: random and structured traces on both parts, chips in and out of
- * range, all refusals, recoveries, records, names, sendings, maps. Stops at the first difference and prints it in full.
+ * range, cycles that are cut off, all refusals, recoveries, records, names, sendings, maps. Stops at the first
+ * difference and prints it in full.
  *
  *     compare [-s SEED] [-n EVENTS] [-r ROUND]
  *
@@ -26,6 +27,7 @@ static const struct {
 } parts[] = {
     { compare_events, 1 },
     { compare_chips, 60 },
+    { compare_power_ups, 20 },
     { compare_traces, 4 },
     { compare_recovery, 12 },
     { compare_record_write, 30 },
@@ -37,6 +39,7 @@ static const struct {
     { compare_map_first, 10 },
     { compare_map_events, 1 },
     { compare_map_chips, 10 },
+    { compare_map_power_ups, 5 },
     { compare_map_traces, 2 },
     { compare_map_send, 1 },
 };

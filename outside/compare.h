@@ -7,6 +7,7 @@
 int compare_new(void);                                  /* every part and select byte */
 int compare_events(struct chance *chance);              /* a trace, event by event, then whole */
 int compare_chips(struct chance *chance);               /* one event on a random chip, in range or not */
+int compare_power_ups(struct chance *chance);           /* a power-up with any choices on a random chip, likewise */
 int compare_traces(struct chance *chance);              /* traces that ask to be refused */
 int compare_recovery(struct chance *chance);
 int compare_record_write(struct chance *chance);
@@ -18,6 +19,7 @@ int compare_map_build(struct chance *chance);           /* then the first free s
 int compare_map_first(struct chance *chance);           /* in maps of any bytes */
 int compare_map_events(struct chance *chance);          /* a trace with a map, event by event, then whole */
 int compare_map_chips(struct chance *chance);           /* one event with a map on a random chip, in range or not */
+int compare_map_power_ups(struct chance *chance);       /* a power-up with any choices and a map, likewise */
 int compare_map_traces(struct chance *chance);          /* traces with a map that ask to be refused */
 int compare_map_send(struct chance *chance);            /* a record sent to the first free sector */
 

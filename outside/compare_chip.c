@@ -1,4 +1,6 @@
-/* Compares new chips, events, traces and recoveries. */
+/* Compares new chips, events, power-ups, traces and recoveries, and holds the library to what the notes and the request
+ * for power cuts say. */
+#include <inttypes.h>
 #include <stdio.h>
 #include <string.h>
 
@@ -24,7 +26,8 @@ struct side {
 static struct side library = { .kit = &kit_library };
 static struct side model = { .kit = &kit_model };
 static uint8_t trace[LONG_TRACE];
-static uint8_t held[CREP_ARRAY];        /* the array as the notes of single events tell it */
+static uint8_t held[CREP_ARRAY];        /* the array as the ends of cycles tell it */
+static struct crep_chip told;           /* what waits as the notes tell it; PPEN and BL in force */
 
 /* Gives both sides the same chip, array and rubbish in what is to be written. */
 static void same_start(struct chance *chance, const struct crep_chip *chip)
@@ -33,7 +36,7 @@ static void same_start(struct chance *chance, const struct crep_chip *chip)
     memset(library.array + CREP_ARRAY, 0x77, MARGIN);
     memcpy(model.array, library.array, sizeof model.array);
     memcpy(held, library.array, CREP_ARRAY);
-    library.chip = model.chip = *chip;
+    library.chip = model.chip = told = *chip;
     library.number = model.number = chance_byte(chance);
 }
 
@@ -87,36 +90,112 @@ int compare_new(void)
     return 0;
 }
 
+/* ---- What the notes and the request for power cuts say ---- */
+
+/* A note: 1 that the loaded places of the counter's sector wait, 5 all of them with the spoil byte, 2 the bits of the
+ * register byte. No sample writes the array. */
+static void tell(const struct crep_chip *before, int note)
+{
+    unsigned sector = (before->counter_high * 256u + before->counter_low) / 32, i;
+
+    if (note == CREP_NOTE_REGISTER) {
+        told.wait = 2;
+        told.wait_ppen = before->load[0] >> 7;
+        told.wait_bl = before->load[0] >> 3 & 3;
+    }
+    if (note != CREP_NOTE_STORED && note != CREP_NOTE_NOT_32)
+        return;
+    told.wait = 1;
+    told.wait_high = (uint8_t)(sector / 256);
+    told.wait_low = (uint8_t)sector;
+    for (i = 0; i < 32; i++) {
+        told.wait_places[i] = note == CREP_NOTE_NOT_32 || before->places[i];
+        told.wait_bytes[i] = note == CREP_NOTE_NOT_32 ? before->spoil : before->load[i];
+    }
+}
+
+/* The end of a cycle: what waits is written where it is chosen. */
+static void hold(uint32_t choices)
+{
+    unsigned sector = (told.wait_high * 256u + told.wait_low) * 32, i;
+
+    for (i = 0; told.wait == 1 && i < 32; i++)
+        if (told.wait_places[i] && choices >> i & 1)
+            held[sector + i] = told.wait_bytes[i];
+    if (told.wait == 2 && choices & 1) {
+        told.ppen = told.wait_ppen;
+        told.bl = told.wait_bl;
+    }
+}
+
+/* How many of the waiting places are chosen: 0 none, 1 some, 2 all. */
+static int share(const struct crep_chip *chip, uint32_t choices)
+{
+    int i, waiting = 0, taken = 0;
+
+    for (i = 0; i < 32; i++) {
+        waiting += chip->wait_places[i];
+        taken += chip->wait_places[i] && choices >> i & 1;
+    }
+    return taken == 0 ? 0 : taken < waiting ? 1 : 2;
+}
+
+/* A program-done writes all of it, and an idle chip's wait stays. */
+static void hold_done(const struct crep_chip *before)
+{
+    if (!before->busy) {
+        tally.dones[3] += before->wait != 0;
+        return;
+    }
+    tally.dones[before->wait == 0 ? 2 : before->wait - 1]++;
+    hold(0xffffffff);
+    told.wait = 0;
+}
+
+/* A power-up writes by its choices, and an idle chip's wait is dropped. */
+static void hold_cut(const struct crep_chip *before, uint32_t choices)
+{
+    if (!before->busy)
+        tally.cuts[6] += before->wait != 0;
+    else if (before->wait == 1)
+        tally.cuts[share(before, choices)]++;
+    else
+        tally.cuts[before->wait == 0 ? 5 : 3 + (choices & 1)]++;
+    if (before->busy)
+        hold(choices);
+    told.wait = 0;
+}
+
+static void hold_event(const struct crep_chip *before, uint8_t event, int note)
+{
+    static const uint32_t choices[] = { 0xffffffff, 0, 0x0000ffff };
+
+    if (event < 8)
+        tell(before, note);
+    else if (event == 8)
+        hold_done(before);
+    else
+        hold_cut(before, choices[event - 9]);
+}
+
+/* The library's side is looked at, so that a write beside all this which both sides share is found too. */
+static int as_held(void)
+{
+    if (memcmp(library.array, held, CREP_ARRAY) == 0 && library.chip.wait == told.wait && library.chip.ppen == told.ppen
+        && library.chip.bl == told.bl)
+        return 1;
+    tally_difference("what notes and ends of cycles say: both sides break it");
+    printf("    wait, PPEN, BL: library %d, %d, %d, said %d, %d, %d\n", library.chip.wait, library.chip.ppen,
+           library.chip.bl, told.wait, told.ppen, told.bl);
+    show_difference(stdout, "array, with what is said as the model's", library.array, held, CREP_ARRAY);
+    return 0;
+}
+
 /* ---- One event ---- */
 
 static void one_event(struct side *side, size_t array_len, uint8_t event)
 {
     side->refusal = side->kit->event(&side->chip, side->array, array_len, event, &side->number);
-}
-
-/* What a note says of the array: 1 that the loaded places are written, 5 the whole sector, any other nothing. */
-static void hold(const struct crep_chip *before, int note)
-{
-    unsigned sector, i;
-
-    if (note != CREP_NOTE_STORED && note != CREP_NOTE_NOT_32)
-        return;
-    sector = (before->counter_high * 256u + before->counter_low) / 32 * 32;
-    for (i = 0; i < 32; i++)
-        if (note == CREP_NOTE_NOT_32)
-            held[sector + i] = before->spoil;
-        else if (before->places[i])
-            held[sector + i] = before->load[i];
-}
-
-/* The library's side is looked at, so that a write beside the notes which both sides share is found too. */
-static int as_held(void)
-{
-    if (memcmp(library.array, held, CREP_ARRAY) == 0)
-        return 1;
-    tally_difference("what the notes say of the array: both sides break it");
-    show_difference(stdout, "array, with what the notes say as the model's", library.array, held, CREP_ARRAY);
-    return 0;
 }
 
 static void count_event(const struct crep_chip *before)
@@ -126,8 +205,10 @@ static void count_event(const struct crep_chip *before)
     tally.events++;
     tally.refusals[model.refusal]++;
     tally.notes[note]++;
-    if (model.refusal == 0)
+    if (model.refusal == 0) {
         tally.phases[model.chip.phase]++;
+        tally.waits[3 * model.chip.busy + model.chip.wait]++;
+    }
     if (note == CREP_NOTE_NOT_32)
         tally.short_loads[before->spoil != 0xff]++;
     if (note == CREP_NOTE_LOCKED && before->part == CREP_X24F128 && before->count != 32)
@@ -161,7 +242,8 @@ static int compare_one(size_t array_len, uint8_t event, size_t at)
     if (!agree())
         return differ_event(&before, array_len, event, at);
     count_event(&before);
-    hold(&before, CREP_NOTE(model.number));
+    if (model.refusal == 0)
+        hold_event(&before, event, CREP_NOTE(model.number));
     return 0;
 }
 
@@ -174,10 +256,67 @@ int compare_chips(struct chance *chance)
     stir_chip(chance, &chip);
     if (chance_once_in(chance, 3))
         stir_out_of_range(chance, &chip);
+    if (chance_once_in(chance, chip.busy ? 2 : 20))
+        event = stir_end(chance);
     if (chance_once_in(chance, 20))
-        event = (uint8_t)(chance_once_in(chance, 2) ? 10 : chance_byte(chance));
+        event = stir_no_event(chance);
     same_start(chance, &chip);
     return compare_one(array_len, event, 0) || !as_held();
+}
+
+/* ---- A power-up with any choices ---- */
+
+static void one_power_up(struct side *side, size_t array_len, uint32_t choices)
+{
+    side->refusal = side->kit->power_up(&side->chip, side->array, array_len, choices, &side->number);
+}
+
+/* In standby with SCL low and the line high, nothing waiting; part, select, PPEN and BL in force and spoil stay. */
+static int powered_up(const struct crep_chip *before)
+{
+    struct crep_chip wanted;
+
+    memset(&wanted, 0, sizeof wanted);
+    wanted.part = before->part;
+    wanted.select = before->select;
+    wanted.ppen = told.ppen;
+    wanted.bl = told.bl;
+    wanted.spoil = before->spoil;
+    wanted.line = 1;
+    return memcmp(&library.chip, &wanted, sizeof wanted) == 0 && library.number == 1;
+}
+
+static int differ_power_up(const char *what, const struct crep_chip *before, size_t array_len, uint32_t choices)
+{
+    tally_difference(what);
+    printf("    choices %08" PRIx32 ", array of %zu bytes\n", choices, array_len);
+    show_sides(before, "answer byte");
+    return 1;
+}
+
+int compare_power_ups(struct chance *chance)
+{
+    size_t array_len = stir_length(chance, CREP_ARRAY, CREP_ARRAY + MARGIN);
+    uint32_t choices = stir_choices(chance);
+    struct crep_chip chip;
+
+    stir_chip(chance, &chip);
+    chip.busy = !chance_once_in(chance, 4);
+    if (chance_once_in(chance, 4))
+        stir_out_of_range(chance, &chip);
+    same_start(chance, &chip);
+    one_power_up(&library, array_len, choices);
+    one_power_up(&model, array_len, choices);
+    if (!agree())
+        return differ_power_up("crep_power_up", &chip, array_len, choices);
+    tally.power_ups++;
+    tally.refusals[model.refusal]++;
+    if (model.refusal)
+        return !as_held();
+    hold_cut(&chip, choices);
+    if (!powered_up(&chip))
+        return differ_power_up("what a power-up leaves: both sides break it", &chip, array_len, choices);
+    return !as_held();
 }
 
 /* ---- Traces ---- */
@@ -279,7 +418,7 @@ int compare_traces(struct chance *chance)
         stir_out_of_range(chance, &chip);
     if (kind <= 3 && n.trace > 0)
         trace[chance_once_in(chance, 2) ? n.trace - 1 : chance_below(chance, (uint32_t)n.trace)] =
-            (uint8_t)(chance_once_in(chance, 2) ? 10 : 10 + chance_below(chance, 246));
+            stir_no_event(chance);
     same_start(chance, &chip);
     return compare_run("crep_run", kit_library.run, &chip, &n);
 }

@@ -32,7 +32,7 @@ static struct side library = { .kit = &kit_library };
 static struct side model = { .kit = &kit_model };
 static struct side plain = { .kit = &kit_library };     /* the library's calls without a map, from the same start */
 static uint8_t trace[LONG_TRACE];
-static uint8_t held[CREP_MAP];          /* the map as the notes of single events tell it */
+static uint8_t held[CREP_MAP];          /* the map as the ends of cycles tell it */
 static int is_true;                     /* whether the map was that of the array at the start */
 
 /* ---- What is asked for ---- */
@@ -179,13 +179,14 @@ static int as_read(void)
     return kit_library.map_first(library.map, CREP_MAP, &found) == 0 && found == first;
 }
 
-/* What a note says of the map: 1 and 5 that the sector's bit is taken from the array, any other nothing. */
-static void hold(const struct crep_chip *before, int note)
+/* A program-done and a power-up say of the map that the bit of a busy chip's waiting sector is taken from the array,
+ * whatever was written; all else says nothing. */
+static void hold(const struct crep_chip *before)
 {
-    unsigned sector = (before->counter_high * 256u + before->counter_low) / 32;
+    unsigned sector = before->wait_high * 256u + before->wait_low;
     int was, is;
 
-    if (note != CREP_NOTE_STORED && note != CREP_NOTE_NOT_32)
+    if (!before->busy || before->wait != 1)
         return;
     was = bit_in(held, sector);
     is = !reads_free(sector);
@@ -194,14 +195,14 @@ static void hold(const struct crep_chip *before, int note)
     tally.bits[2 * was + is]++;
 }
 
-/* The map is what the notes made of it, and true where it was true. */
+/* The map is what the ends of cycles made of it, and true where it was true. */
 static int as_held(const char *call, const struct lengths *n)
 {
     if (memcmp(library.map, held, CREP_MAP) == 0 && (!is_true || as_read()))
         return 1;
     memcpy(plain.map, held, CREP_MAP);
     differ(call, &plain, n);
-    printf("    both sides break it: the map beside what the notes say, or beside a full reading\n");
+    printf("    both sides break it: the map beside what the ends of cycles say, or beside a full reading\n");
     return 0;
 }
 
@@ -285,7 +286,8 @@ static int compare_one(const struct lengths *n, uint8_t event)
     plain.refusal = plain.kit->event(&plain.chip, plain.array, n->array, event, &plain.number);
     if (!as_plain())
         return differ("crep_map_event beside crep_event", &plain, n);
-    hold(&before, CREP_NOTE(model.number));
+    if (model.refusal == 0 && event > 7)
+        hold(&before);
     return 0;
 }
 
@@ -298,10 +300,47 @@ int compare_map_chips(struct chance *chance)
     stir_chip(chance, &chip);
     if (chance_once_in(chance, 4))
         stir_out_of_range(chance, &chip);
+    if (chance_once_in(chance, chip.busy ? 2 : 20))
+        event = stir_end(chance);
     if (chance_once_in(chance, 20))
-        event = (uint8_t)(chance_once_in(chance, 2) ? 10 : chance_byte(chance));
+        event = stir_no_event(chance);
     same_start(chance, &chip);
     return compare_one(&n, event) || !as_held("crep_map_event", &n);
+}
+
+/* ---- A power-up with any choices ---- */
+
+static void one_power_up(struct side *side, const struct lengths *n, uint32_t choices)
+{
+    side->refusal = side->kit->map_power_up(&side->chip, side->array, n->array, side->map, n->map, choices,
+                                            &side->number);
+}
+
+int compare_map_power_ups(struct chance *chance)
+{
+    struct lengths n = any_lengths(chance);
+    uint32_t choices = stir_choices(chance);
+    struct crep_chip chip;
+
+    stir_chip(chance, &chip);
+    chip.busy = !chance_once_in(chance, 4);
+    if (chance_once_in(chance, 4))
+        stir_out_of_range(chance, &chip);
+    same_start(chance, &chip);
+    one_power_up(&library, &n, choices);
+    one_power_up(&model, &n, choices);
+    if (!agree())
+        return differ("crep_map_power_up", &model, &n);
+    tally.mapped++;
+    tally.refusals[model.refusal]++;
+    if (model.refusal == CREP_REFUSED_MAP_LENGTH)
+        return !as_held("crep_map_power_up", &n);
+    plain.refusal = plain.kit->power_up(&plain.chip, plain.array, n.array, choices, &plain.number);
+    if (!as_plain())
+        return differ("crep_map_power_up beside crep_power_up", &plain, &n);
+    if (model.refusal == 0)
+        hold(&chip);
+    return !as_held("crep_map_power_up", &n);
 }
 
 /* ---- Traces ---- */
@@ -340,7 +379,7 @@ static void spell(struct chance *chance, size_t len, int select)
         stir_cycles(chance, &wire, select);
 }
 
-/* Event by event, where the notes tell the map, then the same trace whole, which has to end in the same map. */
+/* Event by event, where ends of cycles tell the map, then the same trace whole, which has to end in the same map. */
 static int compare_both_ways(struct chance *chance, const struct crep_chip *chip, const struct lengths *n)
 {
     struct chance again = *chance;
@@ -390,7 +429,7 @@ int compare_map_traces(struct chance *chance)
         stir_out_of_range(chance, &chip);
     if (kind <= 3 && n.trace > 0)
         trace[chance_once_in(chance, 2) ? n.trace - 1 : chance_below(chance, (uint32_t)n.trace)] =
-            (uint8_t)(chance_once_in(chance, 2) ? 10 : 10 + chance_below(chance, 246));
+            stir_no_event(chance);
     same_start(chance, &chip);
     if (compare_run(&n))
         return 1;
@@ -399,7 +438,7 @@ int compare_map_traces(struct chance *chance)
     return !as_held("what a refused crep_map_run leaves", &n);
 }
 
-/* ---- A gate added: its record is sent to the first free sector of a true map ---- */
+/* ---- A gate added: its record is sent to the first free sector of a true map, and cut off at times ---- */
 
 /* A chip that takes it, most times; the sector may be locked. */
 static void ready(struct chance *chance, struct crep_chip *chip)
@@ -408,6 +447,12 @@ static void ready(struct chance *chance, struct crep_chip *chip)
     chip->bl = (uint8_t)chance_below(chance, 4);
     chip->rpel = chance_once_in(chance, 10);
     chip->busy = chance_once_in(chance, 10);
+}
+
+/* Whether the sector is used now: a record was stored, and the end of its cycle wrote all of it or half. */
+static int added(void)
+{
+    return CREP_NOTE(library.answers[CREP_SEND - 2]) == CREP_NOTE_STORED && trace[CREP_SEND - 1] != CREP_CUT_NONE;
 }
 
 int compare_map_send(struct chance *chance)
@@ -429,13 +474,14 @@ int compare_map_send(struct chance *chance)
     gate = library.first;
     if (kit_library.send(chip.select, gate, record, sizeof record, trace, sizeof trace, &events) != 0)
         return gate == CREP_NO_SECTOR ? 0 : differ("crep_send to the first free sector", &model, &n);
+    trace[CREP_SEND - 1] = stir_end(chance);
     if (compare_run(&n))
         return 1;
     if (!as_read())
         return differ("what a full reading finds: both sides break it", &plain, &n);
     do_first(&library, CREP_MAP);
     next = library.first;
-    if ((next > gate) != (CREP_NOTE(library.answers[CREP_SEND - 2]) == CREP_NOTE_STORED) || next < gate)
+    if ((next > gate) != added() || next < gate)
         return differ("the first free sector after a gate was added", &plain, &n);
     return 0;
 }

@@ -1,4 +1,5 @@
-/* Compares the sender: the events that it writes, what they do to a chip, and what the request says they do. */
+/* Compares the sender: the events that it writes, what they do to a chip, whole and cut off in the cycle, and what the
+ * requests say they do. */
 #include <stdio.h>
 #include <string.h>
 
@@ -135,35 +136,81 @@ static int answered(const uint8_t *answers, int last)
     return low == 39;
 }
 
-/* Idle in standby with PEL 1 and the sector's address, both wires high; part, select, PPEN, BL and spoil as before. */
-static int left(const struct order *o, const struct crep_chip *before, const struct crep_chip *chip)
+/* A chip of zeros with the line high, but for part, select, PPEN, BL and spoil, which are as before. */
+static struct crep_chip as_before(const struct crep_chip *before)
 {
-    struct crep_chip wanted;
+    struct crep_chip chip;
 
-    memset(&wanted, 0, sizeof wanted);
-    wanted.part = before->part;
-    wanted.select = before->select;
-    wanted.ppen = before->ppen;
-    wanted.bl = before->bl;
-    wanted.spoil = before->spoil;
-    wanted.pel = wanted.scl = wanted.line = 1;
+    memset(&chip, 0, sizeof chip);
+    chip.part = before->part;
+    chip.select = before->select;
+    chip.ppen = before->ppen;
+    chip.bl = before->bl;
+    chip.spoil = before->spoil;
+    chip.line = 1;
+    return chip;
+}
+
+/* What waited in an idle chip: a sending that begins no cycle leaves it. */
+static void keep_wait(struct crep_chip *chip, const struct crep_chip *before)
+{
+    chip->wait = before->wait;
+    if (before->wait == 1) {
+        chip->wait_high = before->wait_high;
+        chip->wait_low = before->wait_low;
+        memcpy(chip->wait_places, before->wait_places, 32);
+        memcpy(chip->wait_bytes, before->wait_bytes, 32);
+    }
+    if (before->wait == 2) {
+        chip->wait_ppen = before->wait_ppen;
+        chip->wait_bl = before->wait_bl;
+    }
+}
+
+/* Idle in standby with PEL 1 and the sector's address, both wires high. */
+static int left(const struct order *o, const struct crep_chip *before, int locked)
+{
+    struct crep_chip wanted = as_before(before);
+
+    wanted.pel = wanted.scl = 1;
     wanted.counter_high = (uint8_t)(o->gate / 8);
     wanted.counter_low = (uint8_t)(o->gate % 8 * 32);
-    return memcmp(chip, &wanted, sizeof wanted) == 0;
+    if (locked)
+        keep_wait(&wanted, before);
+    return memcmp(&library.chip, &wanted, sizeof wanted) == 0;
+}
+
+static int is_locked(const struct order *o, const struct crep_chip *before)
+{
+    static const unsigned first_locked[4] = { 0x4000, 0x3000, 0x2000, 0x0000 };
+
+    return o->gate * 32u >= first_locked[before->bl];
 }
 
 /* The library's side is looked at, so that a mistake which both share is found too; `array` is what was before. */
 static int promised(const struct order *o, const struct crep_chip *before, uint8_t *array)
 {
-    static const unsigned first_locked[4] = { 0x4000, 0x3000, 0x2000, 0x0000 };
-    unsigned address = o->gate * 32u;
-    int locked = address >= first_locked[before->bl];
+    int locked = is_locked(o, before);
 
     if (!locked)
-        memcpy(array + address, o->record, CREP_RECORD);
+        memcpy(array + o->gate * 32u, o->record, CREP_RECORD);
     tally.locked[locked]++;
     return answered(library.answers, locked ? CREP_NOTE_LOCKED : CREP_NOTE_STORED)
-        && left(o, before, &library.chip) && memcmp(library.array, array, CREP_ARRAY) == 0;
+        && left(o, before, locked) && memcmp(library.array, array, CREP_ARRAY) == 0;
+}
+
+/* Cut off before its program-done: the sector holds, byte by byte, old or new, and all beside it is kept. */
+static int promised_cut(const struct order *o, const struct crep_chip *before, uint8_t *array, uint32_t choices)
+{
+    struct crep_chip wanted = as_before(before);
+    int i, locked = is_locked(o, before);
+
+    for (i = 0; !locked && i < CREP_RECORD; i++)
+        if (choices >> i & 1)
+            array[o->gate * 32 + i] = o->record[i];
+    if (!locked)
+        tally.cut_sends[choices == 0 ? 0 : choices != 0xffffffff ? 1 : 2]++;
+    return memcmp(&library.chip, &wanted, sizeof wanted) == 0 && memcmp(library.array, array, CREP_ARRAY) == 0;
 }
 
 /* ---- The call, then the run ---- */
@@ -175,13 +222,21 @@ static void do_send(struct side *side, const struct order *o)
                                     &side->events);
 }
 
-static void do_run(struct side *side, const struct crep_chip *chip, const uint8_t *array)
+/* The first n of its events. */
+static void do_run(struct side *side, const struct crep_chip *chip, const uint8_t *array, size_t n)
 {
     side->chip = *chip;
     memcpy(side->array, array, CREP_ARRAY);
     memset(side->answers, 0xee, sizeof side->answers);
-    side->refusal = side->kit->run(&side->chip, side->array, CREP_ARRAY, side->trace, side->events, side->answers,
+    side->refusal = side->kit->run(&side->chip, side->array, CREP_ARRAY, side->trace, n, side->answers,
                                    sizeof side->answers);
+}
+
+static int same_run(void)
+{
+    return library.refusal == model.refusal && memcmp(&library.chip, &model.chip, sizeof model.chip) == 0
+        && memcmp(library.array, model.array, CREP_ARRAY) == 0
+        && memcmp(library.answers, model.answers, CREP_SEND) == 0;
 }
 
 static int compare_sent(struct chance *chance, const struct order *o)
@@ -191,14 +246,39 @@ static int compare_sent(struct chance *chance, const struct order *o)
 
     standing_by(chance, &chip, o->select);
     stir_array(chance, array);
-    do_run(&library, &chip, array);
-    do_run(&model, &chip, array);
-    if (library.refusal != model.refusal || memcmp(&library.chip, &model.chip, sizeof chip) != 0
-        || memcmp(library.array, model.array, CREP_ARRAY) != 0
-        || memcmp(library.answers, model.answers, CREP_SEND) != 0)
+    do_run(&library, &chip, array, library.events);
+    do_run(&model, &chip, array, model.events);
+    if (!same_run())
         return differ_run("crep_run on what crep_send wrote", o, &chip);
     if (as_asked(o, &chip) && (library.refusal || !promised(o, &chip, array)))
         return differ_run("what crep_send promises: both sides break it", o, &chip);
+    return 0;
+}
+
+/* All but the program-done, then a power-up. */
+static void do_cut(struct side *side, const struct crep_chip *chip, const uint8_t *array, uint32_t choices)
+{
+    uint8_t answer;
+
+    do_run(side, chip, array, CREP_SEND - 1);
+    if (side->refusal == 0)
+        side->refusal = side->kit->power_up(&side->chip, side->array, CREP_ARRAY, choices, &answer);
+}
+
+static int compare_cut(struct chance *chance, const struct order *o)
+{
+    static uint8_t array[CREP_ARRAY];
+    uint32_t choices = stir_choices(chance);
+    struct crep_chip chip;
+
+    standing_by(chance, &chip, o->select);
+    stir_array(chance, array);
+    do_cut(&library, &chip, array, choices);
+    do_cut(&model, &chip, array, choices);
+    if (!same_run())
+        return differ_run("crep_power_up before the end of what crep_send wrote", o, &chip);
+    if (as_asked(o, &chip) && (library.refusal || !promised_cut(o, &chip, array, choices)))
+        return differ_run("what crep_send promises where it is cut off: both sides break it", o, &chip);
     return 0;
 }
 
@@ -218,5 +298,5 @@ int compare_send(struct chance *chance)
         return differ_send(&o);
     tally.sends++;
     tally.refusals[model.refusal]++;
-    return model.refusal ? 0 : compare_sent(chance, &o);
+    return model.refusal ? 0 : compare_sent(chance, &o) || compare_cut(chance, &o);
 }

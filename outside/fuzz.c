@@ -109,6 +109,8 @@ static struct crep_chip *lend_chip(struct chance *chance, int i)
     struct crep_chip chip;
 
     stir_chip(chance, &chip);
+    if (chance_once_in(chance, 3))
+        chip.busy = 1;
     if (chance_once_in(chance, 4))
         stir_out_of_range(chance, &chip);
     if (chance_once_in(chance, 10))
@@ -161,13 +163,30 @@ static struct lent lend_three(struct chance *chance)
     return l;
 }
 
+/* The ends of a cycle as often as all other events: they alone write the array. */
+static uint8_t any_event(struct chance *chance)
+{
+    if (chance_once_in(chance, 20))
+        return chance_byte(chance);
+    return chance_once_in(chance, 2) ? stir_end(chance) : stir_event(chance);
+}
+
 static void fuzz_event(struct chance *chance)
 {
     struct lent l = lend_three(chance);
-    uint8_t event = chance_once_in(chance, 20) ? chance_byte(chance) : stir_event(chance);
+    uint8_t event = any_event(chance);
 
     doing = "crep_event";
     check(crep_event(l.chip, l.array, l.array_len, event, l.number) <= 6 && *l.number <= 15);
+    take_all_back(3);
+}
+
+static void fuzz_power_up(struct chance *chance)
+{
+    struct lent l = lend_three(chance);
+
+    doing = "crep_power_up";
+    check(crep_power_up(l.chip, l.array, l.array_len, stir_choices(chance), l.number) <= 2 && *l.number == 1);
     take_all_back(3);
 }
 
@@ -347,11 +366,22 @@ static void fuzz_map_event(struct chance *chance)
 {
     struct lent l = lend_three(chance);
     size_t n;
-    uint8_t *map = lend_map(chance, 3, &n);
-    uint8_t event = chance_once_in(chance, 20) ? chance_byte(chance) : stir_event(chance);
+    uint8_t *map = lend_map(chance, 3, &n), event = any_event(chance);
 
     doing = "crep_map_event";
     check(crep_map_event(l.chip, l.array, l.array_len, map, n, event, l.number) <= 18 && *l.number <= 15);
+    take_all_back(4);
+}
+
+static void fuzz_map_power_up(struct chance *chance)
+{
+    struct lent l = lend_three(chance);
+    size_t n;
+    uint8_t *map = lend_map(chance, 3, &n);
+
+    doing = "crep_map_power_up";
+    check(crep_map_power_up(l.chip, l.array, l.array_len, map, n, stir_choices(chance), l.number) <= 18);
+    check(*l.number == 1);
     take_all_back(4);
 }
 
@@ -367,8 +397,9 @@ static void fuzz_map_run(struct chance *chance)
 }
 
 static void (*const calls[])(struct chance *) = {
-    fuzz_new, fuzz_event, fuzz_event, fuzz_run, fuzz_recover, fuzz_record_write, fuzz_record_limits, fuzz_record_read,
-    fuzz_name, fuzz_send, fuzz_map_build, fuzz_map_first, fuzz_map_event, fuzz_map_run,
+    fuzz_new, fuzz_event, fuzz_event, fuzz_run, fuzz_power_up, fuzz_recover, fuzz_record_write, fuzz_record_limits,
+    fuzz_record_read, fuzz_name, fuzz_send, fuzz_map_build, fuzz_map_first, fuzz_map_event, fuzz_map_power_up,
+    fuzz_map_run,
 };
 
 int main(int argc, char **argv)

@@ -9,6 +9,7 @@ struct kit {
     uint8_t (*make)(struct crep_chip *, uint8_t, uint8_t);
     uint8_t (*event)(struct crep_chip *, uint8_t *, size_t, uint8_t, uint8_t *);
     uint8_t (*run)(struct crep_chip *, uint8_t *, size_t, const uint8_t *, size_t, uint8_t *, size_t);
+    uint8_t (*power_up)(struct crep_chip *, uint8_t *, size_t, uint32_t, uint8_t *);
     uint8_t (*recover)(struct crep_chip *, uint8_t *, size_t, uint8_t, uint8_t *);
     uint8_t (*record_write)(uint8_t *, size_t, int32_t, int32_t, const uint8_t *, size_t);
     uint8_t (*record_limits)(uint8_t *, size_t, int32_t, int32_t);
@@ -18,6 +19,7 @@ struct kit {
     uint8_t (*map_build)(const uint8_t *, size_t, uint8_t *, size_t);
     uint8_t (*map_first)(const uint8_t *, size_t, uint16_t *);
     uint8_t (*map_event)(struct crep_chip *, uint8_t *, size_t, uint8_t *, size_t, uint8_t, uint8_t *);
+    uint8_t (*map_power_up)(struct crep_chip *, uint8_t *, size_t, uint8_t *, size_t, uint32_t, uint8_t *);
     uint8_t (*map_run)(struct crep_chip *, uint8_t *, size_t, uint8_t *, size_t, const uint8_t *, size_t, uint8_t *,
                        size_t);
 };

@@ -18,6 +18,12 @@ enum phase {
 
 enum note { QUIET, ARRAY_CYCLE, REGISTER_CYCLE, LATCHED, LOCKED, SPOILT, NOT_TAKEN, DROPPED };
 
+/* What waits for the end of a cycle (request T-05); the numbers are those of the C interface. */
+enum wait { NOTHING, SECTOR, REGISTER };
+
+/* The 32 choices of a program-done and of event 9. */
+#define ALL 0xffffffffu
+
 /* "What a rightly placed STOP does": first locked address for each part and BL, 4000h for none. */
 static const unsigned first_locked[2][4] = {
     { 0x4000, 0x3000, 0x2000, 0x0000 },
@@ -51,11 +57,36 @@ static void go(struct crep_chip *c, enum phase phase)
     c->high = 0;
 }
 
-/* C interface: what the phase does not carry comes back as 0. */
+static void no_sector_waits(struct crep_chip *c)
+{
+    c->wait_high = 0;
+    c->wait_low = 0;
+    memset(c->wait_places, 0, sizeof c->wait_places);
+    memset(c->wait_bytes, 0, sizeof c->wait_bytes);
+}
+
+static void no_register_waits(struct crep_chip *c)
+{
+    c->wait_ppen = 0;
+    c->wait_bl = 0;
+}
+
+static void nothing_waits(struct crep_chip *c)
+{
+    c->wait = NOTHING;
+    no_sector_waits(c);
+    no_register_waits(c);
+}
+
+/* C interface: what the phase and the kind of wait do not carry comes back as 0. */
 static void tidy(struct crep_chip *c)
 {
     int has_bits = receives(c) || c->phase == SENDING;
 
+    if (c->wait != SECTOR)
+        no_sector_waits(c);
+    if (c->wait != REGISTER)
+        no_register_waits(c);
     if (!has_bits) {
         c->bits = 0;
         c->byte = 0;
@@ -83,14 +114,20 @@ static enum note drop_load(struct crep_chip *c)
 
 /* ---- Refusals and what they return ---- */
 
-static int flags_good(const struct crep_chip *c)
+static int places_good(const uint8_t *places)
 {
     int i;
 
     for (i = 0; i < 32; i++)
-        if (c->places[i] > 1)
+        if (places[i] > 1)
             return 0;
-    return c->ppen <= 1 && c->rpel <= 1 && c->pel <= 1 && c->mark <= 1 && c->busy <= 1 && c->scl <= 1 && c->line <= 1;
+    return 1;
+}
+
+static int flags_good(const struct crep_chip *c)
+{
+    return places_good(c->places) && c->ppen <= 1 && c->rpel <= 1 && c->pel <= 1 && c->mark <= 1 && c->busy <= 1
+        && c->scl <= 1 && c->line <= 1;
 }
 
 /* Bits received and the bit being sent are looked at only where the phase carries them (reading). */
@@ -105,14 +142,29 @@ static int phase_good(const struct crep_chip *c)
     return 1;
 }
 
+static unsigned waiting_sector(const struct crep_chip *c)
+{
+    return c->wait_high * 256u + c->wait_low;
+}
+
+/* T-05: the wait is looked at wherever it is carried, busy or not; what its kind does not carry is not. */
+static int wait_good(const struct crep_chip *c)
+{
+    if (c->wait == SECTOR)
+        return waiting_sector(c) <= 511 && places_good(c->wait_places);
+    if (c->wait == REGISTER)
+        return c->wait_ppen <= 1 && c->wait_bl <= 3;
+    return c->wait == NOTHING;
+}
+
 /* The spoil byte is any byte (T-03). */
 static int chip_good(const struct crep_chip *c)
 {
     return c->part <= 1 && c->select <= 7 && c->bl <= 3 && counter_of(c) <= 0x3fff && c->count <= 33
-        && flags_good(c) && phase_good(c);
+        && flags_good(c) && phase_good(c) && wait_good(c);
 }
 
-/* Refusals 1 and 2, which one event, a trace and recovery check first. */
+/* Refusals 1 and 2, which one event, a trace, a power-up and recovery check first. */
 static uint8_t refuse_chip(const struct crep_chip *c, size_t array_len)
 {
     if (array_len != 16384)
@@ -299,31 +351,56 @@ static enum note on_fall(struct crep_chip *c, const uint8_t *array)
 
 /* ---- What a rightly placed STOP does ---- */
 
-/* Request T-03: every place takes the spoil byte, loaded or not, in a cycle. */
-static enum note spoil(struct crep_chip *c, uint8_t *sector)
+/* T-05: a STOP writes nothing. What the cycle will write waits, and whatever waited before is lost. */
+static void begin_cycle(struct crep_chip *c, enum wait wait)
 {
-    memset(sector, c->spoil, 32);
+    nothing_waits(c);
+    c->wait = (uint8_t)wait;
     c->busy = 1;
     c->rpel = 0;
+}
+
+static void begin_array_cycle(struct crep_chip *c)
+{
+    unsigned sector = counter_of(c) / 32;
+
+    begin_cycle(c, SECTOR);
+    c->wait_high = (uint8_t)(sector / 256);
+    c->wait_low = (uint8_t)(sector % 256);
+}
+
+/* Request T-03: every place takes the spoil byte, loaded or not, in a cycle. */
+static enum note spoil(struct crep_chip *c)
+{
+    begin_array_cycle(c);
+    memset(c->wait_places, 1, 32);
+    memset(c->wait_bytes, c->spoil, 32);
     return SPOILT;
 }
 
-/* The lock first, then the count, which the X24F128 alone asks for. */
-static enum note write_array(struct crep_chip *c, uint8_t *array)
+/* A place that is not loaded waits with byte 0, whatever the load holds there (T-05). */
+static enum note store(struct crep_chip *c)
+{
+    unsigned i;
+
+    begin_array_cycle(c);
+    for (i = 0; i < 32; i++) {
+        c->wait_places[i] = c->places[i];
+        c->wait_bytes[i] = c->places[i] ? c->load[i] : 0;
+    }
+    return ARRAY_CYCLE;
+}
+
+/* The lock first, with BL in force (T-05), then the count, which the X24F128 alone asks for. */
+static enum note write_array(struct crep_chip *c)
 {
     unsigned sector = counter_of(c) / 32 * 32;
-    unsigned i;
 
     if (sector >= first_locked[c->part][c->bl])
         return LOCKED;
     if (c->part == 1 && c->count != 32)
-        return spoil(c, array + sector);
-    for (i = 0; i < 32; i++)
-        if (c->places[i])
-            array[sector + i] = c->load[i];
-    c->busy = 1;
-    c->rpel = 0;
-    return ARRAY_CYCLE;
+        return spoil(c);
+    return store(c);
 }
 
 /* Rule 2: with RPEL 0 a register byte only sets and clears the two latches. */
@@ -340,7 +417,7 @@ static enum note write_latches(struct crep_chip *c, uint8_t byte)
     return LATCHED;
 }
 
-/* Rules 1 to 3. The pin counts in this sample, with PPEN as it was before the byte. */
+/* Rules 1 to 3. The pin counts in this sample, with PPEN in force; PPEN and BL of the byte wait (T-05). */
 static enum note write_register(struct crep_chip *c, uint8_t byte, int pin)
 {
     if (byte & 0x61)
@@ -349,21 +426,20 @@ static enum note write_register(struct crep_chip *c, uint8_t byte, int pin)
         return write_latches(c, byte);
     if ((byte & 7) != 2 || (c->ppen && pin))
         return NOT_TAKEN;
-    c->ppen = byte >> 7;
-    c->bl = byte >> 3 & 3;
-    c->rpel = 0;
-    c->busy = 1;
+    begin_cycle(c, REGISTER);
+    c->wait_ppen = byte >> 7;
+    c->wait_bl = byte >> 3 & 3;
     return REGISTER_CYCLE;
 }
 
-static enum note placed_stop(struct crep_chip *c, uint8_t *array, int pin)
+static enum note placed_stop(struct crep_chip *c, int pin)
 {
     enum note note;
 
     if (c->count == 0)
         return QUIET;
     if (!c->mark)
-        return write_array(c, array);
+        return write_array(c);
     note = write_register(c, c->load[0], pin);
     set_counter(c, 0);
     c->mark = 0;
@@ -379,7 +455,7 @@ static enum note stop_in_pull(struct crep_chip *c)
 }
 
 /* Rightly placed: in the data phase with exactly the one bit that the clock's rise before the STOP brings. */
-static enum note on_stop(struct crep_chip *c, uint8_t *array, int pin)
+static enum note on_stop(struct crep_chip *c, int pin)
 {
     int placed = c->phase == GET_DATA && c->bits == 1;
     enum note note;
@@ -389,37 +465,36 @@ static enum note on_stop(struct crep_chip *c, uint8_t *array, int pin)
     go(c, STANDBY);
     if (!placed)
         return drop_load(c);
-    note = placed_stop(c, array, pin);
+    note = placed_stop(c, pin);
     empty_load(c);
     return note;
 }
 
-/* ---- One event ---- */
+/* ---- The end of a cycle (request T-05) ---- */
 
-/* The sample is judged with the pull before it; a changing clock hides what the line does. */
-static enum note on_edge(struct crep_chip *c, uint8_t *array, int scl, int line, int pin)
+/* A place that waits and is chosen takes its byte; choice 0 decides a register byte as a whole. */
+static void write_waiting(struct crep_chip *c, uint8_t *array, uint32_t choices)
 {
-    if (c->scl && scl && c->line && !line)
-        return on_start(c);
-    if (c->scl && scl && !c->line && line)
-        return on_stop(c, array, pin);
-    if (!c->scl && scl)
-        on_rise(c, line);
-    if (c->scl && !scl)
-        return on_fall(c, array);
-    return QUIET;
+    unsigned i;
+
+    if (c->wait == SECTOR)
+        for (i = 0; i < 32; i++)
+            if (c->wait_places[i] && choices >> i & 1)
+                array[waiting_sector(c) * 32 + i] = c->wait_bytes[i];
+    if (c->wait == REGISTER && choices & 1) {
+        c->ppen = c->wait_ppen;
+        c->bl = c->wait_bl;
+    }
 }
 
-/* The line kept has the pull after the event. */
-static enum note on_sample(struct crep_chip *c, uint8_t *array, int scl, int sda, int pin)
+/* Program-done: everything that waits is written. What an idle chip carries stays waiting. */
+static void end_cycle(struct crep_chip *c, uint8_t *array)
 {
-    enum note note = QUIET;
-
     if (!c->busy)
-        note = on_edge(c, array, scl, sda && !pulls(c), pin);
-    c->scl = (uint8_t)scl;
-    c->line = sda && !pulls(c);
-    return note;
+        return;
+    write_waiting(c, array, ALL);
+    nothing_waits(c);
+    c->busy = 0;
 }
 
 static void power_up(struct crep_chip *c)
@@ -430,20 +505,65 @@ static void power_up(struct crep_chip *c)
     set_counter(c, 0);
     c->mark = 0;
     empty_load(c);
+    nothing_waits(c);
     go(c, STANDBY);
     c->scl = 0;
     c->line = 1;
 }
 
-/* One event byte in 0-9; returns the answer byte. */
+/* Power-up: it cuts the cycle of a busy chip off. An idle chip's choices are not looked at, and its wait is dropped. */
+static void cut_cycle(struct crep_chip *c, uint8_t *array, uint32_t choices)
+{
+    if (c->busy)
+        write_waiting(c, array, choices);
+    power_up(c);
+}
+
+/* Of the 2^32 outcomes of a cut the event bytes know three: 9 all, 10 none, 11 places 0 to 15. */
+static uint32_t choices_of(uint8_t event)
+{
+    static const uint32_t choices[] = { ALL, 0, 0x0000ffff };
+
+    return choices[event - 9];
+}
+
+/* ---- One event ---- */
+
+/* The sample is judged with the pull before it; a changing clock hides what the line does. */
+static enum note on_edge(struct crep_chip *c, const uint8_t *array, int scl, int line, int pin)
+{
+    if (c->scl && scl && c->line && !line)
+        return on_start(c);
+    if (c->scl && scl && !c->line && line)
+        return on_stop(c, pin);
+    if (!c->scl && scl)
+        on_rise(c, line);
+    if (c->scl && !scl)
+        return on_fall(c, array);
+    return QUIET;
+}
+
+/* The line kept has the pull after the event. No sample writes the array (T-05). */
+static enum note on_sample(struct crep_chip *c, const uint8_t *array, int scl, int sda, int pin)
+{
+    enum note note = QUIET;
+
+    if (!c->busy)
+        note = on_edge(c, array, scl, sda && !pulls(c), pin);
+    c->scl = (uint8_t)scl;
+    c->line = sda && !pulls(c);
+    return note;
+}
+
+/* One event byte in 0-11; returns the answer byte. */
 static uint8_t one_event(struct crep_chip *c, uint8_t *array, uint8_t event)
 {
     enum note note = QUIET;
 
-    if (event == 9)
-        power_up(c);
+    if (event > 8)
+        cut_cycle(c, array, choices_of(event));
     else if (event == 8)
-        c->busy = 0;
+        end_cycle(c, array);
     else
         note = on_sample(c, array, event & 1, event >> 1 & 1, event >> 2 & 1);
     return (uint8_t)(c->line | note << 1);
@@ -477,10 +597,21 @@ uint8_t model_event(struct crep_chip *chip, uint8_t *array, size_t array_len, ui
     *answer = 1;
     if (refusal)
         return refusal;
-    if (event > 9)
+    if (event > 11)
         return 6;
     tidy(chip);
     *answer = one_event(chip, array, event);
+    return 0;
+}
+
+uint8_t model_power_up(struct crep_chip *chip, uint8_t *array, size_t array_len, uint32_t choices, uint8_t *answer)
+{
+    uint8_t refusal = refuse_chip(chip, array_len);
+
+    *answer = 1;
+    if (refusal)
+        return refusal;
+    cut_cycle(chip, array, choices);
     return 0;
 }
 
@@ -494,7 +625,7 @@ static uint8_t refuse_trace(const uint8_t *trace, size_t trace_len, size_t answe
     if (answers_len < trace_len)
         return 5;
     for (i = 0; i < trace_len; i++)
-        if (trace[i] > 9)
+        if (trace[i] > 11)
             return 6;
     return 0;
 }
@@ -786,11 +917,23 @@ static void map_sector(uint8_t *map, const uint8_t *array, unsigned sector)
     map[byte_of(sector)] = (uint8_t)byte;
 }
 
-/* An array cycle has begun: it wrote the counter's sector, and no other. */
-static void map_cycle(uint8_t *map, const struct crep_chip *c, const uint8_t *array, unsigned note)
+/* The sector that a program-done or a cut of this chip writes; 512 where there is none (T-05). */
+static unsigned sector_in_cycle(const struct crep_chip *c)
 {
-    if (note == ARRAY_CYCLE || note == SPOILT)
-        map_sector(map, array, counter_of(c) / 32);
+    return c->busy && c->wait == SECTOR ? waiting_sector(c) : CREP_NO_SECTOR;
+}
+
+/* No sample ends a cycle. */
+static unsigned sector_ended_by(const struct crep_chip *c, uint8_t event)
+{
+    return event > 7 ? sector_in_cycle(c) : CREP_NO_SECTOR;
+}
+
+/* A sector whose cycle has ended, whatever was chosen: its bit follows the array as it is now. */
+static void map_ended(uint8_t *map, const uint8_t *array, unsigned sector)
+{
+    if (sector < CREP_SECTORS)
+        map_sector(map, array, sector);
 }
 
 /* 1, then 18; what else a call refuses comes after them. */
@@ -831,12 +974,27 @@ uint8_t model_map_event(struct crep_chip *chip, uint8_t *array, size_t array_len
                         uint8_t event, uint8_t *answer)
 {
     uint8_t refusal = refuse_map(array_len, map_len);
+    unsigned sector = sector_ended_by(chip, event);
 
     *answer = 1;
     if (!refusal)
         refusal = model_event(chip, array, array_len, event, answer);
     if (!refusal)
-        map_cycle(map, chip, array, CREP_NOTE(*answer));
+        map_ended(map, array, sector);
+    return refusal;
+}
+
+uint8_t model_map_power_up(struct crep_chip *chip, uint8_t *array, size_t array_len, uint8_t *map, size_t map_len,
+                           uint32_t choices, uint8_t *answer)
+{
+    uint8_t refusal = refuse_map(array_len, map_len);
+    unsigned sector = sector_in_cycle(chip);
+
+    *answer = 1;
+    if (!refusal)
+        refusal = model_power_up(chip, array, array_len, choices, answer);
+    if (!refusal)
+        map_ended(map, array, sector);
     return refusal;
 }
 
@@ -854,8 +1012,10 @@ uint8_t model_map_run(struct crep_chip *chip, uint8_t *array, size_t array_len, 
         return refusal;
     tidy(chip);
     for (i = 0; i < trace_len; i++) {
+        unsigned sector = sector_ended_by(chip, trace[i]);
+
         answers[i] = one_event(chip, array, trace[i]);
-        map_cycle(map, chip, array, CREP_NOTE(answers[i]));
+        map_ended(map, array, sector);
     }
     return 0;
 }

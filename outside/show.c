@@ -2,10 +2,13 @@
 
 void show_event(FILE *out, uint8_t event)
 {
+    static const char *const others[] = { "program-done", "power-up, all written", "power-up, nothing written",
+                                          "power-up, places 0-15 written", "no event" };
+
     if (event < 8)
         fprintf(out, "%d (SCL %d, SDA %d, pin %d)", event, event & 1, event >> 1 & 1, event >> 2 & 1);
     else
-        fprintf(out, "%d (%s)", event, event == 8 ? "program-done" : event == 9 ? "power-up" : "no event");
+        fprintf(out, "%d (%s)", event, others[event < 12 ? event - 8 : 4]);
 }
 
 void show_answer(FILE *out, uint8_t answer)
@@ -45,6 +48,11 @@ static const char *const fields[] = {
 
 enum { FIELDS = sizeof fields / sizeof fields[0] };
 
+/* Those behind the load. */
+static const char *const later[] = { "spoil", "wait", "wait_high", "wait_low", "wait_ppen", "wait_bl" };
+
+enum { LATER = sizeof later / sizeof later[0] };
+
 static void show_row(FILE *out, const char *name, int index, size_t at, const struct crep_chip *const *chips, int n)
 {
     uint8_t last[2] = { 0, 0 };
@@ -52,7 +60,7 @@ static void show_row(FILE *out, const char *name, int index, size_t at, const st
     int i;
 
     snprintf(title, sizeof title, index < 0 ? "%s" : "%s[%d]", name, index);
-    fprintf(out, "    %-13s", title);
+    fprintf(out, "    %-15s", title);
     for (i = 0; i < n; i++) {
         last[0] = last[1];
         last[1] = ((const uint8_t *)chips[i])[at];
@@ -61,7 +69,7 @@ static void show_row(FILE *out, const char *name, int index, size_t at, const st
     fprintf(out, "%s\n", n > 1 && last[0] != last[1] ? "   <-- differs" : "");
 }
 
-/* Rows of the load where any of the chips has something there. */
+/* Whether any of the chips has something there. */
 static int used(size_t at, const struct crep_chip *const *chips, int n)
 {
     int i;
@@ -72,23 +80,32 @@ static int used(size_t at, const struct crep_chip *const *chips, int n)
     return 0;
 }
 
+/* The rows of a list of 32 in which there is something. */
+static void show_list(FILE *out, const char *name, size_t at, const struct crep_chip *const *chips, int n)
+{
+    int i;
+
+    for (i = 0; i < 32; i++)
+        if (used(at + (size_t)i, chips, n))
+            show_row(out, name, i, at + (size_t)i, chips, n);
+}
+
 void show_chips(FILE *out, const char *const *titles, const struct crep_chip *const *chips, int n)
 {
     int i;
 
-    fprintf(out, "    %-13s", "chip");
+    fprintf(out, "    %-15s", "chip");
     for (i = 0; i < n; i++)
         fprintf(out, " %7s", titles[i]);
     fputc('\n', out);
     for (i = 0; i < FIELDS; i++)
         show_row(out, fields[i], -1, (size_t)i, chips, n);
-    show_row(out, "spoil", -1, offsetof(struct crep_chip, spoil), chips, n);
-    for (i = 0; i < 32; i++)
-        if (used((size_t)(FIELDS + i), chips, n))
-            show_row(out, "places", i, (size_t)(FIELDS + i), chips, n);
-    for (i = 0; i < 32; i++)
-        if (used((size_t)(FIELDS + 32 + i), chips, n))
-            show_row(out, "load", i, (size_t)(FIELDS + 32 + i), chips, n);
+    for (i = 0; i < LATER; i++)
+        show_row(out, later[i], -1, offsetof(struct crep_chip, spoil) + (size_t)i, chips, n);
+    show_list(out, "places", offsetof(struct crep_chip, places), chips, n);
+    show_list(out, "load", offsetof(struct crep_chip, load), chips, n);
+    show_list(out, "wait_places", offsetof(struct crep_chip, wait_places), chips, n);
+    show_list(out, "wait_bytes", offsetof(struct crep_chip, wait_bytes), chips, n);
 }
 
 int show_difference(FILE *out, const char *what, const uint8_t *library, const uint8_t *model, size_t n)

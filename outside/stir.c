@@ -69,6 +69,40 @@ static uint8_t stir_spoil(struct chance *chance)
     return flag(chance) ? (uint8_t)ONE_OF(chance, bytes) : chance_byte(chance);
 }
 
+static void stir_waiting_sector(struct chance *chance, struct crep_chip *chip)
+{
+    static const uint32_t sectors[] = { 0, 1, 7, 8, 255, 256, 383, 384, 510, 511 };
+    uint32_t sector = flag(chance) ? chance_below(chance, 512) : ONE_OF(chance, sectors);
+    uint32_t all = chance_below(chance, 8);
+    int i;
+
+    chip->wait_high = (uint8_t)(sector / 256);
+    chip->wait_low = (uint8_t)sector;
+    for (i = 0; i < 32; i++)
+        chip->wait_places[i] = all == 0 ? 0 : all < 4 ? 1 : flag(chance);
+    chance_fill(chance, chip->wait_bytes, sizeof chip->wait_bytes);
+    /* what frees a sector is bytes FFh */
+    if (chance_once_in(chance, 3))
+        memset(chip->wait_bytes, 0xff, sizeof chip->wait_bytes);
+}
+
+/* What the kind does not carry is rubbish or 0. */
+static void stir_wait(struct chance *chance, struct crep_chip *chip, uint32_t kind)
+{
+    uint8_t *wait = (uint8_t *)chip + offsetof(struct crep_chip, wait);
+
+    memset(wait, 0, sizeof *chip - offsetof(struct crep_chip, wait));
+    if (flag(chance))
+        chance_fill(chance, wait, sizeof *chip - offsetof(struct crep_chip, wait));
+    chip->wait = (uint8_t)kind;
+    if (kind == 1) {
+        stir_waiting_sector(chance, chip);
+    } else if (kind == 2) {
+        chip->wait_ppen = flag(chance);
+        chip->wait_bl = (uint8_t)chance_below(chance, 4);
+    }
+}
+
 void stir_chip(struct chance *chance, struct crep_chip *chip)
 {
     static const uint32_t counters[] = { 0, 0x1fff, 0x2000, 0x2fff, 0x3000, 0x3fff, 0x3fe0, 31 };
@@ -83,12 +117,13 @@ void stir_chip(struct chance *chance, struct crep_chip *chip)
     chip->counter_high = (uint8_t)(counter / 256);
     chip->counter_low = (uint8_t)counter;
     chip->mark = flag(chance);
-    chip->busy = chance_once_in(chance, 8);
+    chip->busy = chance_once_in(chance, 6);
     chip->scl = flag(chance);
     chip->line = flag(chance);
     stir_phase(chance, chip);
     stir_load(chance, chip);
     chip->spoil = stir_spoil(chance);
+    stir_wait(chance, chip, chance_below(chance, 3));
     /* a STOP that is rightly placed, the busiest rule of all */
     if (chance_once_in(chance, 4)) {
         chip->phase = CREP_PHASE_DATA;
@@ -105,11 +140,26 @@ static uint8_t above(struct chance *chance, uint32_t least)
     return (uint8_t)(flag(chance) ? least : least + chance_below(chance, 256 - least));
 }
 
+/* One number of a wait, of the kind that carries it; sector 512 every second time that the sector is the one. */
+static void stir_wait_out_of_range(struct chance *chance, struct crep_chip *chip)
+{
+    uint32_t at = chance_below(chance, 5);
+
+    stir_wait(chance, chip, at < 2 ? 1 : 2);
+    switch (at) {
+    case 0: chip->wait_high = above(chance, 2); chip->wait_low = flag(chance) ? 0 : chance_byte(chance); break;
+    case 1: chip->wait_places[chance_below(chance, 32)] = above(chance, 2); break;
+    case 2: chip->wait_ppen = above(chance, 2); break;
+    case 3: chip->wait_bl = above(chance, 4); break;
+    default: chip->wait = above(chance, 3); break;
+    }
+}
+
 void stir_out_of_range(struct chance *chance, struct crep_chip *chip)
 {
     uint8_t *flags[] = { &chip->ppen, &chip->rpel, &chip->pel, &chip->mark, &chip->busy, &chip->scl, &chip->line };
 
-    switch (chance_below(chance, 10)) {
+    switch (chance_below(chance, 14)) {
     case 0: chip->part = above(chance, 2); break;
     case 1: chip->select = above(chance, 8); break;
     case 2: chip->bl = above(chance, 4); break;
@@ -119,6 +169,7 @@ void stir_out_of_range(struct chance *chance, struct crep_chip *chip)
     case 6: chip->places[chance_below(chance, 32)] = above(chance, 2); break;
     case 7: chip->phase = (uint8_t)(1 + chance_below(chance, 4)); chip->bits = above(chance, 9); break;
     case 8: chip->phase = CREP_PHASE_SENDING; chip->bits = above(chance, 8); break;
+    case 9: case 10: case 11: stir_wait_out_of_range(chance, chip); break;
     default: *flags[chance_below(chance, 7)] = above(chance, 2); break;
     }
 }
@@ -132,6 +183,37 @@ void stir_array(struct chance *chance, uint8_t *array)
 }
 
 /* ---- Traces ---- */
+
+uint8_t stir_end(struct chance *chance)
+{
+    return (uint8_t)(flag(chance) ? 8 : 9 + chance_below(chance, 3));
+}
+
+uint8_t stir_no_event(struct chance *chance)
+{
+    return (uint8_t)(flag(chance) ? 12 : 12 + chance_below(chance, 244));
+}
+
+uint32_t stir_choices(struct chance *chance)
+{
+    static const uint32_t halves[] = { 0xffffffff, 0, 0x0000ffff, 0xffff0000, 0x55555555 };
+    uint32_t one = 1u << chance_below(chance, 32);
+
+    switch (chance_below(chance, 4)) {
+    case 0: return ONE_OF(chance, halves);
+    case 1: return flag(chance) ? one : ~one;
+    default: return (uint32_t)chance_word(chance);
+    }
+}
+
+/* The end of a cycle: program-done most times, else a cut, at times none. */
+static void an_end(struct chance *chance, struct wire *wire)
+{
+    uint32_t kind = chance_below(chance, 8);
+
+    if (kind < 7)
+        wire_event(wire, (uint8_t)(kind < 5 ? 8 : 9 + chance_below(chance, 3)));
+}
 
 static uint32_t stir_address(struct chance *chance)
 {
@@ -163,7 +245,7 @@ static void a_locking(struct chance *chance, struct wire *wire, int select)
     wire_register(wire, select, 0x02);
     wire_register(wire, select, 0x06);
     wire_register(wire, select, (uint8_t)(0x02 | (bl > 3 ? 0 : bl) << 3 | chance_once_in(chance, 4) << 7));
-    wire_event(wire, 8);
+    an_end(chance, wire);
 }
 
 static void a_write(struct chance *chance, struct wire *wire, int select)
@@ -177,8 +259,7 @@ static void a_write(struct chance *chance, struct wire *wire, int select)
     if (flag(chance))
         wire_register(wire, select, 0x02);
     wire_write(wire, select, stir_address(chance), bytes, ONE_OF(chance, sizes));
-    if (!chance_once_in(chance, 4))
-        wire_event(wire, 8);
+    an_end(chance, wire);
 }
 
 static void a_read(struct chance *chance, struct wire *wire, int select)
@@ -224,7 +305,7 @@ uint8_t stir_event(struct chance *chance)
     if (chance_once_in(chance, 40))
         return 8;
     if (chance_once_in(chance, 300))
-        return 9;
+        return (uint8_t)(9 + chance_below(chance, 3));
     return (uint8_t)chance_below(chance, 8);
 }
 
@@ -249,12 +330,12 @@ static void a_piece(struct chance *chance, struct wire *wire, int select)
     case 8: a_current_read(chance, wire, select); break;
     case 9: a_muddle(chance, wire, select); break;
     case 10: a_noise(chance, wire); break;
-    default: wire_event(wire, (uint8_t)(chance_once_in(chance, 8) ? 9 : 8)); break;
+    default: wire_event(wire, (uint8_t)(chance_once_in(chance, 4) ? 9 + chance_below(chance, 3) : 8)); break;
     }
 }
 
 /* A piece that breaks off, as when noise comes or a program crashes. */
-static void cut(struct chance *chance, struct wire *wire, size_t from)
+static void break_off(struct chance *chance, struct wire *wire, size_t from)
 {
     if (chance_once_in(chance, 6) && wire->len > from)
         wire->len = from + chance_below(chance, (uint32_t)(wire->len - from));
@@ -278,7 +359,7 @@ void stir_trace(struct chance *chance, struct wire *wire, int select)
         size_t from = wire->len;
 
         a_piece(chance, wire, select);
-        cut(chance, wire, from);
+        break_off(chance, wire, from);
         scratch(chance, wire, from);
     }
 }
@@ -306,11 +387,11 @@ void stir_cycles(struct chance *chance, struct wire *wire, int select)
         else
             a_cycle(chance, wire, select);
         if (!chance_once_in(chance, 10))
-            wire_event(wire, 8);
-        if (chance_once_in(chance, 5)) {
-            wire_event(wire, 9);
+            wire_event(wire, stir_end(chance));
+        if (chance_once_in(chance, 10))
+            wire_event(wire, (uint8_t)(9 + chance_below(chance, 3)));
+        if (wire->len > 0 && wire->events[wire->len - 1] > 8)
             wire_register(wire, select, 0x02);
-        }
     }
 }
 

@@ -6,7 +6,8 @@
 #include "crepulanter.h"
 #include "wire.h"
 
-/* A chip in range, any phase; half of the time with rubbish in the fields that its phase does not carry. */
+/* A chip in range, any phase, anything waiting, busy or not; half of the time with rubbish in the fields that its phase
+ * or its kind of wait does not carry. */
 void stir_chip(struct chance *chance, struct crep_chip *chip);
 
 /* Puts one field of a chip out of its range. */
@@ -22,11 +23,20 @@ void stir_gates(struct chance *chance, uint8_t *array);
 /* Messages for a chip with this select, good and bad, mixed with noise, until `room` events are spelt. */
 void stir_trace(struct chance *chance, struct wire *wire, int select);
 
-/* The same with cycle after cycle in a few sectors: stores, spoils and register bytes, most of them ended. */
+/* The same with cycle after cycle in a few sectors: stores, spoils and register bytes, most of them ended, some cut. */
 void stir_cycles(struct chance *chance, struct wire *wire, int select);
 
-/* An event byte 0-9; the samples of a clock often, program-done and power-up seldom. */
+/* An event byte 0-11; the samples of a clock often, program-done and power-up seldom. */
 uint8_t stir_event(struct chance *chance);
+
+/* An event byte 8-11, which ends a cycle: program-done as often as all power-ups. */
+uint8_t stir_end(struct chance *chance);
+
+/* A byte that is no event: the first of them often. */
+uint8_t stir_no_event(struct chance *chance);
+
+/* The 32 choices of a power-up: any, or all, none, a half, one alone, all but one. */
+uint32_t stir_choices(struct chance *chance);
 
 /* A limit, at or around an end of the range every second time. */
 int32_t stir_limit(struct chance *chance);

@@ -29,9 +29,9 @@ int tally_print(void)
 {
     int missing;
 
-    printf("  %" PRIu64 " events one by one, %" PRIu64 " in traces, %" PRIu64 " recoveries, %" PRIu64 " records, %"
-           PRIu64 " names, %" PRIu64 " sends\n", tally.events, tally.traced, tally.recoveries, tally.records,
-           tally.names, tally.sends);
+    printf("  %" PRIu64 " events one by one, %" PRIu64 " in traces, %" PRIu64 " power-ups with choices, %" PRIu64
+           " recoveries, %" PRIu64 " records, %" PRIu64 " names, %" PRIu64 " sends\n", tally.events, tally.traced,
+           tally.power_ups, tally.recoveries, tally.records, tally.names, tally.sends);
     printf("  %" PRIu64 " maps, %" PRIu64 " events with a map, one by one and in traces\n", tally.maps, tally.mapped);
     missing = row("notes", tally.notes, 0, 7);
     missing += row("refusals", tally.refusals, 0, 18);
@@ -39,6 +39,10 @@ int tally_print(void)
     missing += row("pulses", tally.pulses, 1, 10);
     missing += row("locked", tally.locked, 0, 1);
     missing += row("short", tally.short_loads, 0, 2);
+    missing += row("waits", tally.waits, 0, 5);
+    missing += row("dones", tally.dones, 0, 3);
+    missing += row("cuts", tally.cuts, 0, 6);
+    missing += row("cut sends", tally.cut_sends, 0, 2);
     missing += row("bits", tally.bits, 0, 3);
     missing += row("first", tally.first, 0, 1);
     return missing;

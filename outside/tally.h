@@ -6,13 +6,18 @@
 
 struct tally {
     uint64_t seed, round;       /* `compare -s SEED -r ROUND` comes back to this round */
-    uint64_t events, traced, recoveries, records, names, sends, maps, mapped;
+    uint64_t events, traced, power_ups, recoveries, records, names, sends, maps, mapped;
     uint64_t notes[8];
     uint64_t refusals[19];
     uint64_t phases[12];
     uint64_t pulses[11];
     uint64_t locked[2];         /* records sent to a chip for which they are: its sector not locked, locked */
     uint64_t short_loads[3];    /* on an X24F128: spoilt with FFh, spoilt with another byte, stopped by a lock */
+    uint64_t waits[6];          /* what waits after an event: nothing, a sector, a register byte; idle, then busy */
+    uint64_t dones[4];          /* of a sector, of a register byte, of nothing; on an idle chip with a wait */
+    uint64_t cuts[7];           /* of a sector, none of what waits written, some, all; of a register byte, not taken,
+                                   taken; of nothing; of an idle chip with a wait */
+    uint64_t cut_sends[3];      /* records cut off before their program-done: none of the places written, some, all */
     uint64_t bits[4];           /* a cycle's bit: 0 and 0 after it, 0 and 1, 1 and 0, 1 and 1 */
     uint64_t first[2];          /* first free in a map: a sector, none */
 };
@@ -23,7 +28,7 @@ extern struct tally tally;
 void tally_difference(const char *call);
 
 /* Prints the counts. Returns how many notes, refusals, phases, pulse numbers, kinds of sector, ends of a short load,
- * changes of a map's bit and kinds of first free were never reached. */
+ * kinds of wait and of its end, changes of a map's bit and kinds of first free were never reached. */
 int tally_print(void);
 
 #endif

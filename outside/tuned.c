@@ -6,6 +6,8 @@
 
 #include <string.h>
 
+enum { NOTHING, SECTOR, BITS };         /* what waits */
+
 enum { IDLE, SLAVE, HIGH, LOW, DATA, ACK_W, ACK_R, ACK_H, ACK_D, SEND, WAIT, NEXT };
 
 struct hot {
@@ -21,7 +23,9 @@ static int good_chip(const struct crep_chip *c)
     int i;
 
     for (i = 0; i < 32; i++)
-        flags |= c->places[i];
+        flags |= c->places[i] | (c->wait == SECTOR ? c->wait_places[i] : 0);
+    if (c->wait == SECTOR ? c->wait_high > 1 : c->wait == BITS ? c->wait_ppen > 1 || c->wait_bl > 3 : c->wait != 0)
+        return 0;
     return flags <= 1 && c->part <= 1 && c->select <= 7 && c->bl <= 3 && c->counter_high <= 0x3f && c->count <= 33
         && c->phase <= NEXT && c->bits <= most;
 }
@@ -32,7 +36,7 @@ static int good_events(const uint8_t *trace, size_t n)
     size_t i;
 
     for (i = 0; i < n; i++)
-        high |= trace[i] > 9;
+        high |= trace[i] > 11;
     return !high;
 }
 
@@ -57,6 +61,13 @@ static void cool(struct crep_chip *c, struct hot h)
     c->byte = carries ? (uint8_t)h.byte : 0;
     if (h.phase != LOW && h.phase != ACK_H)
         c->high = 0;
+    if (c->wait != SECTOR) {
+        c->wait_high = c->wait_low = 0;
+        memset(c->wait_places, 0, 32);
+        memset(c->wait_bytes, 0, 32);
+    }
+    if (c->wait != BITS)
+        c->wait_ppen = c->wait_bl = 0;
 }
 
 static unsigned counter(const struct crep_chip *c)
@@ -138,20 +149,31 @@ static unsigned sent_all(struct crep_chip *c)
     return was ? IDLE : WAIT;
 }
 
-static unsigned store(struct crep_chip *c, uint8_t *array)
+/* A cycle; cool clears what its kind of wait does not carry. */
+static void begin(struct crep_chip *c, unsigned wait)
 {
-    unsigned base = counter(c) & ~31u, i;
-
-    if (c->bl && base >= (c->bl == 3 ? 0u : 0x4000u - c->bl * 0x1000u))
-        return 4;
     c->busy = 1;
     c->rpel = 0;
+    c->wait = (uint8_t)wait;
+}
+
+static unsigned store(struct crep_chip *c)
+{
+    unsigned at = counter(c) >> 5, i;
+
+    if (c->bl && at >= (c->bl == 3 ? 0u : 0x200u - c->bl * 0x80u))
+        return 4;
+    begin(c, SECTOR);
+    c->wait_high = (uint8_t)(at >> 8);
+    c->wait_low = (uint8_t)at;
     if (c->part && c->count != 32) {
-        memset(array + base, c->spoil, 32);
+        memset(c->wait_places, 1, 32);
+        memset(c->wait_bytes, c->spoil, 32);
         return 5;
     }
+    memcpy(c->wait_places, c->places, 32);
     for (i = 0; i < 32; i++)
-        array[base + i] = c->places[i] ? c->load[i] : array[base + i];
+        c->wait_bytes[i] = c->load[i] & (0u - c->places[i]);
     return 1;
 }
 
@@ -170,29 +192,46 @@ static unsigned set_register(struct crep_chip *c, unsigned v, unsigned pin)
     }
     if ((v & 7) != 2 || (c->ppen & pin))
         return 6;
-    c->ppen = (uint8_t)(v >> 7);
-    c->bl = v >> 3 & 3;
-    c->rpel = 0;
-    c->busy = 1;
+    begin(c, BITS);
+    c->wait_ppen = (uint8_t)(v >> 7);
+    c->wait_bl = v >> 3 & 3;
     return 2;
 }
 
 /* placed: in the data phase with one bit received. */
-static unsigned stop(struct crep_chip *c, uint8_t *array, int placed, unsigned pin)
+static unsigned stop(struct crep_chip *c, int placed, unsigned pin)
 {
     unsigned note = 0;
 
     if (!placed)
         return drop(c);
     if (c->count)
-        note = c->mark ? set_register(c, c->load[0], pin) : store(c, array);
+        note = c->mark ? set_register(c, c->load[0], pin) : store(c);
     drop(c);
     return note;
 }
 
-/* Program-done and power-up. */
-static void other(struct crep_chip *c, struct hot *h, unsigned event)
+/* The chosen part of what waits, bit k of `chosen` for place k. */
+static void take(struct crep_chip *c, uint8_t *array, unsigned chosen)
 {
+    unsigned to = ((unsigned)c->wait_high << 8 | c->wait_low) * 32, i;
+
+    if (c->wait == BITS && (chosen & 1)) {
+        c->ppen = c->wait_ppen;
+        c->bl = c->wait_bl;
+    }
+    for (i = 0; c->wait == SECTOR && i < 32; i++)
+        if (c->wait_places[i] & chosen >> i)
+            array[to + i] = c->wait_bytes[i];
+}
+
+/* Program-done and the three power-ups. A program-done leaves an idle chip what waits. */
+static void other(struct crep_chip *c, struct hot *h, uint8_t *array, unsigned event)
+{
+    if (h->busy)
+        take(c, array, event < 10 ? 0xffffffffu : event == 10 ? 0 : 0xffff);
+    if (h->busy || event > 8)
+        c->wait = NOTHING;
     c->busy = 0;
     h->busy = 0;
     if (event == 8)
@@ -204,10 +243,10 @@ static void other(struct crep_chip *c, struct hot *h, unsigned event)
 }
 
 /* An event that is no sample, or a sample that a busy chip only tracks. */
-static void slow(struct crep_chip *c, struct hot *h, unsigned event)
+static void slow(struct crep_chip *c, struct hot *h, uint8_t *array, unsigned event)
 {
     if (event > 7) {
-        other(c, h, event);
+        other(c, h, array, event);
     } else {
         h->scl = event & 1;
         h->line = event >> 1 & 1;
@@ -264,7 +303,7 @@ static inline unsigned fall(struct crep_chip *c, struct hot *h, const uint8_t *a
     return 0;
 }
 
-static unsigned start_or_stop(struct crep_chip *c, struct hot *h, uint8_t *array, unsigned pin)
+static unsigned start_or_stop(struct crep_chip *c, struct hot *h, unsigned pin)
 {
     unsigned note;
 
@@ -272,7 +311,7 @@ static unsigned start_or_stop(struct crep_chip *c, struct hot *h, uint8_t *array
         note = drop(c);
         h->phase = SLAVE;
     } else {
-        note = stop(c, array, h->phase == DATA && h->bit == 1, pin);
+        note = stop(c, h->phase == DATA && h->bit == 1, pin);
         h->phase = IDLE;
         h->busy = c->busy;
     }
@@ -313,7 +352,7 @@ static inline uint8_t one(struct crep_chip *c, struct hot *h, uint8_t *array, un
     unsigned scl = e & 1, sda = e >> 1 & 1, now = sda & ~h->pull, note = 0;
 
     if (e > 7 || h->busy) {
-        slow(c, h, e);
+        slow(c, h, array, e);
         return (uint8_t)h->line;
     }
     if (scl > h->scl)
@@ -321,7 +360,7 @@ static inline uint8_t one(struct crep_chip *c, struct hot *h, uint8_t *array, un
     else if (scl < h->scl)
         note = fall(c, h, array);
     else if (scl & (now ^ h->line))
-        note = start_or_stop(c, h, array, e >> 2);
+        note = start_or_stop(c, h, e >> 2);
     h->scl = scl;
     h->line = sda & ~h->pull;
     return (uint8_t)(h->line | note << 1);

@@ -24,7 +24,6 @@ int main(int argc, char **argv)
     wire_open(&wire, events, n);
     stir_trace(&chance, &wire, 0);
     if (n > 0 && chance_once_in(&chance, 8))
-        events[chance_once_in(&chance, 2) ? n - 1 : chance_below(&chance, n)] =
-            (uint8_t)(10 + chance_below(&chance, 246));
+        events[chance_once_in(&chance, 2) ? n - 1 : chance_below(&chance, n)] = stir_no_event(&chance);
     return fwrite(events, 1, n, stdout) != n;
 }

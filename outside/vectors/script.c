@@ -57,10 +57,24 @@ static uint8_t run_event(uint8_t byte, uint8_t *answer)
     return model_event(&chip, array, room, byte, answer);
 }
 
+static uint8_t run_power_up(uint32_t choices, uint8_t *answer)
+{
+    if (mapping)
+        return model_map_power_up(&chip, array, room, map, map_lent, choices, answer);
+    return model_power_up(&chip, array, room, choices, answer);
+}
+
+static void answered(uint8_t refusal, uint8_t answer)
+{
+    refused(refusal);
+    noted(CREP_NOTE(answer));
+    line = CREP_LINE(answer);
+}
+
 /* A live order's events stand past the tape's end while it runs, and what has no room there is not run. */
 static void event(unsigned byte)
 {
-    uint8_t answer = 0;
+    uint8_t answer = 0, refusal;
 
     if (recording) {
         record_byte(byte);
@@ -69,9 +83,20 @@ static void event(unsigned byte)
     if (length + live >= sizeof tape || !lendable(mapping))
         return;
     tape[length + live++] = (uint8_t)byte;
-    refused(run_event((uint8_t)byte, &answer));
-    noted(CREP_NOTE(answer));
-    line = CREP_LINE(answer);
+    refusal = run_event((uint8_t)byte, &answer);
+    answered(refusal, answer);
+}
+
+/* No event byte knows these choices, so that the tape has no part in it. */
+static void power_up(uint32_t choices)
+{
+    uint8_t answer = 0, refusal;
+
+    if (lendable(mapping)) {
+        refusal = run_power_up(choices, &answer);
+        answered(refusal, answer);
+    }
+    printf(":%d", line);
 }
 
 /* Hands what is spelt on, event by event. */
@@ -292,6 +317,22 @@ static void show_load(void)
     printf("=%02x,%02x,%04x", chip.count, loaded, sum);
 }
 
+static void show_wait(void)
+{
+    unsigned places = 0, sum = 0, i;
+
+    for (i = 0; i < 32; i++) {
+        places += chip.wait_places[i];
+        sum += chip.wait_bytes[i];
+    }
+    switch (chip.wait) {
+    case 0: printf("=n"); break;
+    case 1: printf("=s%02x%02x", chip.wait_high, chip.wait_low); break;
+    default: printf("=r%x,%02x", chip.wait_ppen, chip.wait_bl);
+    }
+    printf(",%02x,%04x", places, sum);
+}
+
 static void sector(unsigned long address)
 {
     unsigned long first = address / 32 * 32 % 65536, i;
@@ -302,9 +343,25 @@ static void sector(unsigned long address)
             printf("%02x", array[first + i]);
 }
 
+/* What waits on a chip as no run leaves it: of a sector all places, each with 5Ah; what is not named is 0. */
+static void put_wait(uint8_t kind, unsigned sector, uint8_t ppen, uint8_t bl)
+{
+    chip.wait = kind;
+    chip.wait_high = (uint8_t)(sector / 256);
+    chip.wait_low = (uint8_t)(sector % 256);
+    chip.wait_ppen = ppen;
+    chip.wait_bl = bl;
+    memset(chip.wait_places, kind == 1, sizeof chip.wait_places);
+    memset(chip.wait_bytes, kind == 1 ? 0x5a : 0, sizeof chip.wait_bytes);
+}
+
 /* Fields of a chip as no run sets them; the phase's own bytes are 0. */
 static void alter(unsigned field, uint8_t n)
 {
+    if (field >= 0x80) {
+        put_wait(1, (field - 0x80) * 256 + n, 0, 0);
+        return;
+    }
     switch (field) {
     case 0: chip.part = n; break;
     case 1: chip.select = n; break;
@@ -314,6 +371,9 @@ static void alter(unsigned field, uint8_t n)
     case 5: memset(chip.load, 0, sizeof chip.load); memset(chip.places, 0, sizeof chip.places); chip.count = n; break;
     case 6: chip.busy = n == 1; break;
     case 7: chip.spoil = n; break;
+    case 8: put_wait(2, 0, n / 128, n % 128); break;
+    case 10: memset(chip.load, n, sizeof chip.load); break;
+    default: put_wait(0, 0, 0, 0);
     }
 }
 
@@ -332,34 +392,11 @@ static int32_t limit(void)
     return (int32_t)(minus ? -size : size);
 }
 
-static void order(int c)
+static void set(int c)
 {
     uint8_t n = (uint8_t)(value % 256);
 
     switch (c) {
-    case 's': wire_start(&wire); play(); break;
-    case 'r': wire_restart(&wire); play(); break;
-    case 'p': wire_stop(&wire); play(); break;
-    case 'd': event(8); break;
-    case 'u': event(9); break;
-    case 'b': eight(n); break;
-    case 'e': event(n); printf(":%d", line); break;
-    case 'g': receive(1); break;
-    case 'l': receive(0); break;
-    case 'k': burst(value); break;
-    case 'v': recover(); break;
-    case 't': run_tape(); break;
-    case 'S': send_record(); break;
-    case 'n': new_chip(n); break;
-    case 'i': show(); break;
-    case 'h': show_load(); break;
-    case 'm': putchar('='); if (value < sizeof array) printf("%02x", array[value]); break;
-    case 'o': sector(value); break;
-    case 'w': if (value / 256 < sizeof array) array[value / 256] = n; break;
-    case 'M': build_map(); break;
-    case 'G': first_free(); break;
-    case 'K': if (value / 256 < sizeof map) map[value / 256] = n; break;
-    case 'I': if (value < sizeof map) printf("=%02x", map[value]); break;
     case 'X': map_lent = value; break;
     case '{': mapping = 1; break;
     case '}': mapping = 0; break;
@@ -376,6 +413,49 @@ static void order(int c)
     case 'c': closed = limit(); break;
     case 'j': opened = limit(); break;
     default: on_record(c);
+    }
+}
+
+static void look(int c)
+{
+    uint8_t n = (uint8_t)(value % 256);
+
+    switch (c) {
+    case 'i': show(); break;
+    case 'h': show_load(); break;
+    case 'H': show_wait(); break;
+    case 'm': putchar('='); if (value < sizeof array) printf("%02x", array[value]); break;
+    case 'o': sector(value); break;
+    case 'w': if (value / 256 < sizeof array) array[value / 256] = n; break;
+    case 'M': build_map(); break;
+    case 'G': first_free(); break;
+    case 'K': if (value / 256 < sizeof map) map[value / 256] = n; break;
+    case 'I': if (value < sizeof map) printf("=%02x", map[value]); break;
+    default: set(c);
+    }
+}
+
+static void order(int c)
+{
+    uint8_t n = (uint8_t)(value % 256);
+
+    switch (c) {
+    case 's': wire_start(&wire); play(); break;
+    case 'r': wire_restart(&wire); play(); break;
+    case 'p': wire_stop(&wire); play(); break;
+    case 'd': event(8); break;
+    case 'u': event(9); break;
+    case 'P': power_up((uint32_t)value); break;
+    case 'b': eight(n); break;
+    case 'e': event(n); printf(":%d", line); break;
+    case 'g': receive(1); break;
+    case 'l': receive(0); break;
+    case 'k': burst(value); break;
+    case 'v': recover(); break;
+    case 't': run_tape(); break;
+    case 'S': send_record(); break;
+    case 'n': new_chip(n); break;
+    default: look(c);
     }
 }
 
@@ -426,7 +506,7 @@ static void take(int c)
     } else if (c == '-') {
         minus = 1;
     } else if (digit_of(c) >= 0) {
-        value = value % 16777216 * 16 + (unsigned long)digit_of(c);
+        value = value % 268435456 * 16 + (unsigned long)digit_of(c);
         number = 1;
     } else {
         order(c);
