@@ -10,7 +10,7 @@ use Rattle.chip.specs.declared.chip.Chip.{Chip}
 use Rattle.chip.specs.declared.chip.Moved.{Moved}
 use Rattle.chip.specs.declared.event.Answer.{Answer}
 use Rattle.trace.specs.Trace.{unless}
-use Rattle.crepulanter.specs.State.{bytesOf}
+use Rattle.chip_bytes.specs.State.{bytesOf}
 
 -- what is made of it where a call is taken is made of what a taken one leaves
 pub unless-inner :

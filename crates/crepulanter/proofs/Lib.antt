@@ -1,10 +1,5 @@
 pub mod Answers
-pub mod Clearing
-pub mod Copies
 pub mod Labels
 pub mod OneEvent
 pub mod PowerUps
 pub mod Refusals
-pub mod RoundTrip
-pub mod Rows
-pub mod Waits

@@ -15,7 +15,7 @@ use Rattle.map.specs.Keeping.{keptOver, traceRefusal, traceRan, traceArray, tra
 use Rattle.map.specs.Sectors.{withMap}
 use Rattle.crepulanter.specs.Calls.{unfit, checked, eventRefusal, runNumber, EventSays, RunSays}
 use Rattle.crepulanter.specs.Maps.{MapEventSays, MapRunSays}
-use Rattle.crepulanter.specs.State.{bytesFit, chipOf, bytesOf}
+use Rattle.chip_bytes.specs.State.{bytesFit, chipOf, bytesOf}
 use Rattle.crepulanter.proofs.Answers.{unless-inner}
 use Rattle.crepulanter.proofs.Refusals.{unfit-taken, unfit-map-taken}
 

@@ -18,7 +18,7 @@ use Rattle.map.specs.Keeping.{kept, answerRefusal, answerOf, answerArray, answe
 use Rattle.map.specs.Sectors.{withMap}
 use Rattle.crepulanter.specs.Calls.{unfit, eventRefusal, powerUpNumber, EventSays, PowerUpSays}
 use Rattle.crepulanter.specs.Maps.{mapEventRefusal, mapPowerUpNumber, MapEventSays, MapPowerUpSays}
-use Rattle.crepulanter.specs.State.{bytesFit, chipOf, bytesOf}
+use Rattle.chip_bytes.specs.State.{bytesFit, chipOf, bytesOf}
 use Rattle.crepulanter.proofs.Answers.{answer-number, answer-packed}
 
 -- bytes that fit are refused as their chip is

@@ -21,7 +21,7 @@ use Rattle.chip.specs.Event.{refusal, next, nextArray}
 use Rattle.recovery.specs.Recovery.{recoveryAnswer, recoveryArray}
 use Rattle.trace.specs.Bytes.{eventOf, isEvent, answerByte}
 use Rattle.trace.specs.Trace.{unless, ranOf, runArray, runAnswers}
-use Rattle.crepulanter.specs.State.{bytesFit, chipOf, bytesOf}
+use Rattle.chip_bytes.specs.State.{bytesFit, chipOf, bytesOf}
 
 -- K3: a phase above 11, a kind of what waits above 2 or a flag that is neither 0 nor 1 is refusal 2, after 1
 unfoldable pub unfit : List ℕ → ℕ

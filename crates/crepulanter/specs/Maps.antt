@@ -21,7 +21,7 @@ use Rattle.map.specs.Sectors.{withMap}
 use Rattle.map.specs.declared.finding.Found.{Found}
 use Rattle.map.specs.declared.finding.Found.the-variants.{Sector, None, Refused}
 use Rattle.crepulanter.specs.Calls.{eventRefusal, runNumber, powerUpNumber}
-use Rattle.crepulanter.specs.State.{bytesFit, chipOf, bytesOf}
+use Rattle.chip_bytes.specs.State.{bytesFit, chipOf, bytesOf}
 
 -- K11: none and a refusal are 512
 abbrev pub sectorNumber : Found → ℕ

@@ -12,7 +12,7 @@ use lib.IntN.{ℤ}
 use Rattle.gate.specs.Answer.{givenOf, saysFree}
 use Rattle.gate.specs.Naming.{spanOf}
 use Rattle.gate.specs.Reading.{readOf}
-use Rattle.crepulanter.specs.State.{flagByte}
+use Rattle.chip_bytes.specs.State.{flagByte}
 
 -- K4, K6: a refusal answers zeros
 pub record ReadSays (bytes : List ℕ) (r : ℕ) (closed opened travel : ℤ) (label free : ℕ) : Type 0 where

@@ -1,11 +1,11 @@
 // The five functions of a chip.
 ghost use mathlib.Core.Path.{_≡_};
 ghost use Rattle.crepulanter.specs.Calls.{unfit, NewSays, EventSays, RunSays, PowerUpSays, RecoverSays};
-use crate::at;
-use crate::packing::pack;
-use crate::unpacking::bytes_fit;
-use crate::unpacking::unpack;
 use chip::chip::Chip;
+use chip_bytes::at;
+use chip_bytes::bytes_fit;
+use chip_bytes::pack;
+use chip_bytes::unpack;
 use recovery::recover;
 use trace::run;
 

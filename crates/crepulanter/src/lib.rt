@@ -1,12 +1,9 @@
-// The kit for C: a chip is `at::SIZE` bytes that the caller keeps, and each exported function answers for every byte and length
+// The kit for C: a chip is `at::SIZE` bytes of crate `chip_bytes` that the caller keeps, and each exported function answers for every byte and length
 // that it can be lent. include/crepulanter.h is the other side of this interface.
-mod at;
 mod chips;
 mod maps;
-mod packing;
 mod records;
 mod sending;
-mod unpacking;
 
 pub use chips::crep_event;
 pub use chips::crep_new;

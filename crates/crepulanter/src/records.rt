@@ -4,7 +4,7 @@ ghost use Rattle.gate.specs.Answer.{saysFree};
 ghost use Rattle.gate.specs.Limiting.{limitsOf, limitedOf};
 ghost use Rattle.gate.specs.Writing.{writeOf, writtenOf};
 ghost use Rattle.crepulanter.specs.Records.{ReadSays, NameSays};
-use crate::packing::flag_byte;
+use chip_bytes::flag_byte;
 use gate::answer::Read;
 use gate::read;
 use gate::set_limits;

@@ -43,6 +43,8 @@ use Rattle.sender.specs.Sending.{sentOf, sentBuffer}
 use Rattle.sender.proofs as sender
 use Rattle.report.specs.Report.{reportOf}
 use Rattle.report.proofs as report
+use Rattle.chip_bytes.specs.State.{flagByte, bytesFit, chipOf, bytesOf}
+use Rattle.chip_bytes.proofs as chip_bytes
 use Rattle.crepulanter.proofs as crepulanter
 use Rattle.promises.specs.OneAnswer.{Contract, Input, Result, Left, Allows, Outcome, outcome, OneAnswer, whole}
 
@@ -286,6 +288,22 @@ operations =
     ∷ one (whole 2 report.write_report.Kinds.ps report.write_report.Kinds.r report.write_report.Reads.Post)
     (λ κs (chip, (bytes, (page, end))). (length (reportOf chip (now bytes)), (tt, (tt, (reportOf chip (now bytes) ++ drop (length (reportOf chip (now bytes))) (now page), tt)))))
     (λ κs input r left p i. (p .0 i, (tt, (tt, (p .1 i, tt)))))
+    -- chip_bytes::flag_byte
+    ∷ one (whole 0 chip_bytes.flag_byte.Kinds.ps chip_bytes.flag_byte.Kinds.r chip_bytes.flag_byte.Reads.Post)
+    (λ κs (on, end). (flagByte on, (tt, tt)))
+    (λ κs input r left. alone)
+    -- chip_bytes::pack
+    ∷ one (whole 0 chip_bytes.pack.Kinds.ps chip_bytes.pack.Kinds.r chip_bytes.pack.Reads.Post)
+    (λ κs (chip, end). (bytesOf chip, (tt, tt)))
+    (λ κs input r left. alone)
+    -- chip_bytes::bytes_fit
+    ∷ one (whole 1 chip_bytes.bytes_fit.Kinds.ps chip_bytes.bytes_fit.Kinds.r chip_bytes.bytes_fit.Reads.Post)
+    (λ κs (state, end). (bytesFit (now state), (tt, tt)))
+    (λ κs input r left. alone)
+    -- chip_bytes::unpack
+    ∷ one (whole 1 chip_bytes.unpack.Kinds.ps chip_bytes.unpack.Kinds.r chip_bytes.unpack.Reads.Post)
+    (λ κs (state, end). (chipOf (now state), (tt, tt)))
+    (λ κs input r left. alone)
     -- crep_new
     ∷ by-parts (whole 1 crepulanter.crep_new.Kinds.ps crepulanter.crep_new.Kinds.r crepulanter.crep_new.Reads.Post)
     (λ κs input r r′ left left′ p q i. (both (p .returned) (q .returned) i, (both (p .state) (q .state) i, (tt, (tt, tt)))))

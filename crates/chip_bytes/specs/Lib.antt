@@ -1,0 +1,3 @@
+pub mod At
+pub mod Clean
+pub mod State
