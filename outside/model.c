@@ -669,9 +669,10 @@ uint8_t model_recover(struct crep_chip *chip, uint8_t *array, size_t array_len, 
 
 enum { CLOSED = 0, OPENED = 2, STATE = 4, LENGTH = 5, LABEL = 6, SUM = 30, RECORD = 32, LONGEST = 24 };
 
+/* 20h-7Eh, and A1h-FEh of ISO 8859-1 (request T-06): the fixed space A0h is bad, the soft hyphen ADh good (reading). */
 static int label_byte(uint8_t byte)
 {
-    return byte >= 0x20 && byte <= 0x7e;
+    return (byte >= 0x20 && byte <= 0x7e) || (byte >= 0xa1 && byte <= 0xfe);
 }
 
 static int limit_good(int32_t limit)

@@ -221,12 +221,15 @@ static void read_record(void)
 
 static void show_name(void)
 {
-    size_t first = BEFORE, len = 0;
+    size_t first = BEFORE, len = 0, i;
     uint8_t own = BEFORE;
+    const uint8_t *name;
 
     (void)model_name(array, room, tape, length, &first, &len, &own);
+    name = (own ? array : tape) + first;
     printf("=[");
-    fwrite((own ? array : tape) + first, 1, len, stdout);
+    for (i = 0; i < len; i++)
+        printf(name[i] < 0x20 || name[i] > 0x7e || name[i] == '\\' ? "\\%02x" : "%c", name[i]);
     printf("]%c,%02zx,%02zx", own ? 'r' : 's', first, len);
 }
 

@@ -1,12 +1,12 @@
 -- Laws of label bytes and of the label's padding.
 -- Assumes nothing.
 use mathlib.Core.Path.{_≡_, refl, ap, _∙_}
-use mathlib.Core.Bool.{Bool, true, false, and-false}
+use mathlib.Core.Bool.{Bool, true, false, _&&_, and-false, or-true}
 use mathlib.Core.List.{List, [], _∷_}
-use Prim.Native.Nat.{ℕ, zero, suc, _<_}
+use Prim.Native.Nat.{ℕ, zero, suc, _≤_, _<_}
 use native.Mathlib.Nat.{not-suc-le-zero, le-of-suc-le-suc}
 use native.Mathlib.Omega.{arith}
-use borrow.Author.Tests.{eqb-true, eq-eqb, leb-true}
+use borrow.Author.Tests.{eqb-true, eq-eqb, le-leb, lt-leb}
 use lib.Dec.{eqb, leb}
 use lib.ListN.{length, getD, replicate}
 use Rattle.gate.specs.Bytes.{eachByte, all}
@@ -23,10 +23,20 @@ pub label-erased : labelByte 0xff ≡ false
 unfolding labelByte
 label-erased = refl
 
--- what may stand in a label is a byte
-pub label-fits : (b : ℕ) → labelByte b ≡ true → b < 0x100
+-- A1h to FEh may stand in a label
+pub label-accent : (b : ℕ) → 0xa1 ≤ b → b ≤ 0xfe → labelByte b ≡ true
 unfolding labelByte
-label-fits b e = omega (arith, leb-true b 0x7e (and-right (leb 0x20 b) (leb b 0x7e) e))
+label-accent b low high = rw (le-leb 0xa1 b low, le-leb b 0xfe high, or-true (leb 0x20 b && leb b 0x7e))
+
+-- what lies between the two ranges may not, 7Fh to A0h
+pub label-gap : (b : ℕ) → 0x7e < b → b < 0xa1 → labelByte b ≡ false
+unfolding labelByte
+label-gap b low high = rw (lt-leb b 0x7e low, lt-leb 0xa1 b high, and-false (leb 0x20 b))
+
+-- nor what lies above them: FFh, and what is no byte
+pub label-above : (b : ℕ) → 0xfe < b → labelByte b ≡ false
+unfolding labelByte
+label-above b high = rw (lt-leb b 0x7e (omega arith), lt-leb b 0xfe high, and-false (leb 0x20 b), and-false (leb 0xa1 b))
 
 -- a label that is not empty is never all FFh
 pub no-erased-label : (n : ℕ) → isLabel (replicate (suc n) 0xff) ≡ false

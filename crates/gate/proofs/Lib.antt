@@ -10,6 +10,7 @@ pub mod Records
 pub mod RoundTrip
 pub mod Outcomes
 pub mod Beside
+pub mod BadBytes
 pub mod Trimming
 pub mod Given
 pub mod Limited

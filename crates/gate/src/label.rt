@@ -4,11 +4,11 @@ ghost use Prim.Native.Nat.{_≤_};
 ghost use lib.ListN.{length};
 ghost use Rattle.gate.specs.Label.{labelByte, isLabel, trimmedLength};
 
-// Whether a byte may stand in a label.
+// Whether a byte may stand in a label: a character of ISO 8859-1 that prints, or the space 20h.
 pub(crate) fn label_byte(b: u8) -> bool
     ensures { λ r. ⌜ r ≡ labelByte b ⌝ }
 {
-    (0x20 <= b) & (b <= 0x7e)
+    ((0x20 <= b) & (b <= 0x7e)) | ((0xa1 <= b) & (b <= 0xfe))
 }
 
 // Whether each byte of s may stand in a label.

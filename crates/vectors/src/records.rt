@@ -16,7 +16,7 @@ fn read(record: &[u8]) {
 fn name<'a>(record: &'a [u8], standard: &'a [u8]) {
     say::letter(b'=');
     say::letter(b'[');
-    say::text(gate::shown_name(record, standard));
+    say::name(gate::shown_name(record, standard));
     say::letter(b']');
     let span = gate::shown_span(record, standard);
     say::flag(span.own, b'r');

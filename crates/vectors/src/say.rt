@@ -1,4 +1,4 @@
-// What the vectors write on standard output: the script's own bytes, and numbers in hexadecimal, in small letters.
+// What the vectors write on standard output: the script's own bytes, names, and numbers in hexadecimal, in small letters.
 use libc::STDOUT_FILENO;
 
 // Bytes as they are.
@@ -38,6 +38,24 @@ pub(crate) fn number(sign: u8, n: u64, digits: usize) {
 pub(crate) fn unless_none(sign: u8, n: u8) {
     if n != 0 {
         number(sign, n as u64, 1);
+    }
+}
+
+// A character of a name: itself where it is ASCII and prints, else, and for the backslash, a backslash and two digits.
+fn character(b: u8) {
+    if (0x20 <= b) & (b <= 0x7e) & (b != b'\\') {
+        letter(b);
+    } else {
+        number(b'\\', b as u64, 2);
+    }
+}
+
+// A name.
+pub(crate) fn name(s: &[u8]) {
+    let mut i: usize = 0;
+    while i < s.len() {
+        character(s[i]);
+        i = i + 1;
     }
 }
 
