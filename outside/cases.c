@@ -1,7 +1,7 @@
 /*
  * The paper's worked cases 1 to 13, its errors that look right, demand 3 on random noise, and what the requests for the
- * sender, for short loads, for the map and for power cuts say, on the model and on the library. What is expected stands
- * here as the paper gives it.
+ * sender, for short loads, for the map, for power cuts and for accents say, on the model and on the library. What is
+ * expected stands here as the paper gives it.
  */
 #include <stdio.h>
 #include <string.h>
@@ -1211,6 +1211,168 @@ static int event_12_is_refused(const struct kit *kit)
         && kit->run(&bench.chip, bench.array, CREP_ARRAY, bench.trace, 2, bench.answers, 2) == 6;
 }
 
+/* ---- Accents on labels ---- */
+
+/* Porton Nunez with its three accents. */
+static const uint8_t porton[12] = { 0x50, 0x6f, 0x72, 0x74, 0xf3, 0x6e, 0x20, 0x4e, 0xfa, 0xf1, 0x65, 0x7a };
+
+/* A record with limits 0 and 1,200 by the layout, whatever its label. */
+static void lay_out(uint8_t *record, const uint8_t *label, uint8_t n)
+{
+    static const uint8_t head[5] = { 0, 0, 0x04, 0xb0, 0xa5 };
+    unsigned sum = 0;
+    int i;
+
+    memset(record, 0x20, 32);
+    memcpy(record, head, sizeof head);
+    record[5] = n;
+    memcpy(record + 6, label, n);
+    for (i = 0; i < 30; i++)
+        sum += record[i];
+    record[30] = (uint8_t)(sum >> 8);
+    record[31] = (uint8_t)sum;
+}
+
+/* 1 where a label is written, and its record read, sent and given its limits anew; 0 where they are refused with 9 and
+ * 14 and write nothing; else -1. */
+static int label_taken(const struct kit *kit, const uint8_t *label, uint8_t n)
+{
+    static const uint8_t none[4] = { 0, 0, 0, 0 }, all[4] = { 9, 14, 14, 14 };
+    uint8_t record[32], before[32], wanted[32], length, empty, refusals[4];
+    int32_t closed, opened, travel;
+
+    lay_out(wanted, label, n);
+    memset(record, 0x55, 32);
+    memset(before, 0x55, 32);
+    refusals[0] = kit->record_write(record, 32, 0, 1200, label, n);
+    if (memcmp(record, refusals[0] ? before : wanted, 32) != 0)
+        return -1;
+    memcpy(record, wanted, 32);
+    refusals[1] = kit->record_read(record, 32, &closed, &opened, &travel, &length, &empty);
+    refusals[2] = refusal_of(kit, 0, 17, record, 32, 713);
+    refusals[3] = kit->record_limits(record, 32, 0, 1200);
+    if (memcmp(record, wanted, 32) != 0)
+        return -1;
+    if (memcmp(refusals, none, 4) == 0)
+        return length == n && opened == 1200 ? 1 : -1;
+    return memcmp(refusals, all, 4) == 0 && length == 0 && opened == 0 ? 0 : -1;
+}
+
+/* Every byte as the first of 24, as the last and as all of them: 00h-1Fh, 7Fh-A0h and FFh are bad, the others good. */
+static int label_bytes(const struct kit *kit)
+{
+    uint8_t label[24];
+    int byte, good = 1;
+
+    for (byte = 0; byte < 256; byte++) {
+        int taken = byte > 0x1f && byte < 0xff && (byte < 0x7f || byte > 0xa0);
+
+        memset(label, 'A', sizeof label);
+        label[0] = (uint8_t)byte;
+        good = good && label_taken(kit, label, 24) == taken;
+        label[0] = 'A';
+        label[23] = (uint8_t)byte;
+        good = good && label_taken(kit, label, 24) == taken;
+        memset(label, byte, sizeof label);
+        good = good && label_taken(kit, label, 24) == taken;
+    }
+    return good;
+}
+
+/* FFh throughout is refused at every length but 0, at which there is none. */
+static int erased_label(const struct kit *kit)
+{
+    uint8_t label[24], n;
+    int good = 1;
+
+    memset(label, 0xff, sizeof label);
+    for (n = 0; n <= 24; n++)
+        good = good && label_taken(kit, label, n) == (n == 0);
+    return good;
+}
+
+/* Whether the name shown of a record is its first n label bytes, or the standard label where n is 0. */
+static int shows(const struct kit *kit, const uint8_t *record, size_t n)
+{
+    static const uint8_t standard[3] = { 0xff, 0xa0, 0x00 };
+    size_t start, len;
+    uint8_t from_record;
+
+    return kit->record_name(record, 32, standard, sizeof standard, &start, &len, &from_record) == 0
+        && from_record == (n > 0) && start == (n > 0 ? 6 : 0) && len == (n > 0 ? n : sizeof standard);
+}
+
+/* Porton Nunez is written, sent to gate 17 of either part, read there and shown whole. */
+static int accents_are_sent(const struct kit *kit)
+{
+    static uint8_t wanted[CREP_ARRAY];
+    uint8_t record[32], part, length, empty;
+    int32_t closed, opened, travel;
+    uint16_t events;
+    int good = 1;
+
+    for (part = 0; part < 2; part++) {
+        open_bench(kit, part);
+        good = good && kit->record_write(record, 32, 0, 1200, porton, sizeof porton) == 0
+            && kit->send(0, 17, record, 32, bench.trace, CREP_SEND, &events) == 0;
+        bench.wire.len = good ? events : 0;
+        memset(wanted, 0xff, sizeof wanted);
+        lay_out(wanted + 0x220, porton, sizeof porton);
+        good = good && notes_are(3, 1) && memcmp(bench.array, wanted, sizeof wanted) == 0
+            && kit->record_read(bench.array + 0x220, 32, &closed, &opened, &travel, &length, &empty) == 0
+            && closed == 0 && opened == 1200 && travel == 1200 && length == sizeof porton && !empty
+            && shows(kit, bench.array + 0x220, sizeof porton);
+    }
+    return good;
+}
+
+/* Spaces after an accent are trimmed, a soft hyphen is not; A0h makes the record bad, and the standard label, which may
+ * be any bytes, is shown. */
+static int accents_are_shown(const struct kit *kit)
+{
+    static const struct { uint8_t label[4]; size_t shown; } names[] = {
+        { { 'A', 0xf1, 0x20, 0x20 }, 2 }, { { 'A', 0x20, 0xad, 0x20 }, 3 }, { { 'A', 0xf1, 0xa0, 0x20 }, 0 },
+    };
+    uint8_t record[32];
+    size_t i;
+    int good = 1;
+
+    for (i = 0; i < sizeof names / sizeof names[0]; i++) {
+        lay_out(record, names[i].label, 4);
+        good = good && shows(kit, record, names[i].shown);
+    }
+    return good;
+}
+
+/* Whatever byte stands right behind a label of one byte, 20h alone is padding. */
+static int padding_is_20h(const struct kit *kit)
+{
+    uint8_t label[2] = { 'A', 0 }, record[32], length, empty;
+    int32_t closed, opened, travel;
+    int byte, good = 1;
+
+    for (byte = 0; byte < 256; byte++) {
+        label[1] = (uint8_t)byte;
+        lay_out(record, label, 2);
+        record[5] = 1;
+        record[30] -= record[31] == 0;
+        record[31]--;
+        good = good && kit->record_read(record, 32, &closed, &opened, &travel, &length, &empty)
+            == (byte == 0x20 ? 0 : 14);
+    }
+    return good;
+}
+
+/* New limits leave the record that writing them with the label would. */
+static int limits_keep_accents(const struct kit *kit)
+{
+    uint8_t record[32], wanted[32];
+
+    lay_out(wanted, porton, sizeof porton);
+    return kit->record_write(record, 32, 7, -7, porton, sizeof porton) == 0 && memcmp(record, wanted, 32) != 0
+        && kit->record_limits(record, 32, 0, 1200) == 0 && memcmp(record, wanted, 32) == 0;
+}
+
 /* ---- The header ---- */
 
 /* CREP_VERSION_NUMBER is CREP_VERSION by its own rule; each refusal has a text. */
@@ -1219,7 +1381,7 @@ static int header_agrees(const struct kit *kit)
     int first, second, third;
 
     (void)kit;
-    return strcmp(CREP_VERSION, "0.7.0") == 0 && sscanf(CREP_VERSION, "%d.%d.%d", &first, &second, &third) == 3
+    return strcmp(CREP_VERSION, "0.8.0") == 0 && sscanf(CREP_VERSION, "%d.%d.%d", &first, &second, &third) == 3
         && CREP_VERSION_NUMBER == 10000 * first + 100 * second + third
         && strcmp(crep_refusal_text(6), "an event byte above 11") == 0
         && strcmp(crep_refusal_text(17), "buffer shorter than 713 events") == 0
@@ -1278,6 +1440,12 @@ static const struct {
     { "-   the map follows the end of a cycle, each cut", map_follows_cuts },
     { "-   what power-ups with choices refuse", power_up_refuses },
     { "-   event 11 is taken, 12 refused", event_12_is_refused },
+    { "-   label bytes: 20h-7Eh and A1h-FEh, no other", label_bytes },
+    { "-   a label of all FFh is refused", erased_label },
+    { "-   a label with accents is sent, read and shown", accents_are_sent },
+    { "-   what is trimmed is 20h alone", accents_are_shown },
+    { "-   padding is 20h alone", padding_is_20h },
+    { "-   new limits keep a label with accents", limits_keep_accents },
     { "-   the header's version and refusal texts", header_agrees },
 };
 

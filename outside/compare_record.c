@@ -79,7 +79,8 @@ int compare_record_write(struct chance *chance)
 
     stir_order(chance, &o);
     o.label_len = chance_once_in(chance, 4) ? stir_length(chance, 24, ROOM) : chance_below(chance, 25);
-    stir_label(chance, o.label, ROOM);
+    chance_fill(chance, o.label, ROOM);
+    stir_label(chance, o.label, o.label_len);
     return compare_written("crep_record_write", do_write, &o);
 }
 

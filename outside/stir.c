@@ -409,16 +409,46 @@ int32_t stir_limit(struct chance *chance)
     return edges[chance_below(chance, COUNT(edges))];
 }
 
+/* Any byte, or one at an edge of what may stand in a label, on either side of it. */
+static uint8_t odd_byte(struct chance *chance)
+{
+    static const uint32_t edges[] = { 0x00, 0x1f, 0x7e, 0x7f, 0x80, 0x9f, 0xa0, 0xa1, 0xad, 0xfe, 0xff };
+
+    return flag(chance) ? (uint8_t)ONE_OF(chance, edges) : chance_byte(chance);
+}
+
+/* A space, a plain letter, or one with an accent. */
+static uint8_t letter(struct chance *chance, int accents)
+{
+    if (chance_once_in(chance, 4))
+        return 0x20;
+    if (accents && chance_once_in(chance, 3))
+        return (uint8_t)(0xa1 + chance_below(chance, 0x5e));
+    return (uint8_t)(0x20 + chance_below(chance, 0x5f));
+}
+
+/* An odd byte at the first place, at the last, at any, or at all. */
+static void put_odd_byte(struct chance *chance, uint8_t *label, size_t n)
+{
+    uint8_t byte = odd_byte(chance);
+
+    switch (chance_below(chance, 6)) {
+    case 0: memset(label, byte, n); break;
+    case 1: label[0] = byte; break;
+    case 2: label[n - 1] = byte; break;
+    default: label[chance_below(chance, (uint32_t)n)] = byte; break;
+    }
+}
+
 void stir_label(struct chance *chance, uint8_t *label, size_t n)
 {
-    static const uint32_t edges[] = { 0x1f, 0x7f, 0x00, 0xff, 0x80, 0xa0 };
+    int spaces = chance_once_in(chance, 4), accents = flag(chance);
     size_t i;
-    int spaces = chance_once_in(chance, 4);
 
     for (i = 0; i < n; i++)
-        label[i] = (uint8_t)(spaces || chance_once_in(chance, 4) ? 0x20 : 0x20 + chance_below(chance, 0x5f));
-    if (n > 0 && chance_once_in(chance, 5))
-        label[chance_below(chance, (uint32_t)n)] = (uint8_t)ONE_OF(chance, edges);
+        label[i] = spaces ? 0x20 : letter(chance, accents);
+    if (n > 0 && flag(chance))
+        put_odd_byte(chance, label, n);
 }
 
 static void put_sum(uint8_t *record)
@@ -456,7 +486,7 @@ static void damage(struct chance *chance, uint8_t *record)
     switch (chance_below(chance, 6)) {
     case 0: record[chance_below(chance, 32)] = chance_byte(chance); break;
     case 1: record[5] = (uint8_t)chance_below(chance, 40); break;
-    case 2: record[6 + chance_below(chance, 24)] = chance_byte(chance); break;
+    case 2: record[6 + chance_below(chance, 24)] = odd_byte(chance); break;
     case 3: record[2] = record[0]; record[3] = record[1]; break;
     case 4: record[4] ^= (uint8_t)(1u << chance_below(chance, 8)); break;
     default: record[30 + chance_below(chance, 2)] ^= (uint8_t)(1u << chance_below(chance, 8)); break;

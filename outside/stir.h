@@ -41,7 +41,7 @@ uint32_t stir_choices(struct chance *chance);
 /* A limit, at or around an end of the range every second time. */
 int32_t stir_limit(struct chance *chance);
 
-/* Label bytes, good ones but for one in every twenty. */
+/* A label, often with accents; every second one has a byte that may be bad, or is nothing but that byte. */
 void stir_label(struct chance *chance, uint8_t *label, size_t n);
 
 /* 32 bytes: a good record, a damaged one (often with its sum put right), a free one, or rubbish. */
