@@ -1,6 +1,6 @@
 /*
- * The same board under CMocka (Debian: libcmocka-dev): each test has a new chip, and a refused call fails the test at
- * the line that made it.
+ * The same board under CMocka (Debian: libcmocka-dev): each test on it has a new chip, and a refused call fails the
+ * test at the line that made it. The conversions of latin1.h are tested beside it.
  */
 #include <setjmp.h>
 #include <stdarg.h>
@@ -12,6 +12,7 @@
 
 #include "board.h"
 #include "driver.h"
+#include "latin1.h"
 
 enum { GATE = 7, SELECT = 2 };
 
@@ -274,6 +275,122 @@ static void one_pin_at_a_time(void **state)
     assert_int_equal(board.array[GATE * CREP_RECORD], 'N');
 }
 
+/* "Núñez" in UTF-8, seven bytes, and in ISO 8859-1, five. */
+static const char nunez[] = "N\xc3\xba\xc3\xb1" "ez";
+static const uint8_t nunez_label[] = { 'N', 0xfa, 0xf1, 'e', 'z' };
+
+/* From a text in UTF-8 to a name in UTF-8, by way of a record and the wires. */
+static void an_accented_label_comes_back(void **state)
+{
+    uint8_t label[CREP_LABEL], bytes[CREP_RECORD], from_record;
+    char shown[LATIN1_NAME];
+    size_t start, len;
+
+    (void)state;
+    assert_int_equal(latin1_from_utf8(nunez, strlen(nunez), label, sizeof label, &len), LATIN1_OK);
+    board_taken(crep_record_write(bytes, sizeof bytes, 150, -200, label, len));
+    assert_true(memory_send_record(SELECT, GATE, bytes));
+    memset(bytes, 0x00, sizeof bytes);
+    assert_true(memory_read_sector(SELECT, GATE, bytes));
+    crep_name(bytes, sizeof bytes, NULL, 0, &start, &len, &from_record);
+    assert_int_equal(from_record, 1);
+    assert_int_equal(len, sizeof nunez_label);
+    assert_memory_equal(bytes + start, nunez_label, len);
+    assert_int_equal(latin1_to_utf8(bytes + start, len, shown, sizeof shown, &len), LATIN1_OK);
+    assert_int_equal(len, strlen(nunez));
+    assert_memory_equal(shown, nunez, len);
+}
+
+/* All 256 characters in one text: those from 80h on are two bytes. */
+static void every_character_goes_there_and_back(void **state)
+{
+    uint8_t all[256], back[256];
+    char text[512];
+    size_t i, len;
+
+    (void)state;
+    for (i = 0; i < sizeof all; i++)
+        all[i] = (uint8_t)i;
+    assert_int_equal(latin1_to_utf8(all, sizeof all, text, sizeof text, &len), LATIN1_OK);
+    assert_int_equal(len, 128 + 2 * 128);
+    assert_int_equal(latin1_from_utf8(text, len, back, sizeof back, &len), LATIN1_OK);
+    assert_int_equal(len, sizeof all);
+    assert_memory_equal(back, all, sizeof all);
+}
+
+/* A text is refused so, alone and behind a good letter. */
+static void assert_refused(const char *text, int refusal)
+{
+    char behind[8] = "N";
+    uint8_t label[CREP_LABEL];
+    size_t len = 99;
+
+    memcpy(behind + 1, text, strlen(text));
+    assert_int_equal(latin1_from_utf8(text, strlen(text), label, sizeof label, &len), refusal);
+    assert_int_equal(len, 0);
+    assert_int_equal(latin1_from_utf8(behind, 1 + strlen(text), label, sizeof label, &len), refusal);
+}
+
+static void bad_text_is_refused(void **state)
+{
+    static const char *const malformed[] = {
+        "\x80", "\xbf", "\xa9N",                                            /* a stray byte */
+        "\xc3", "\xc3N", "\xc3 ", "\xc3\xc3", "\xe2\x82", "\xf0\x9f\x9a",   /* cut short */
+        "\xc0\x80", "\xc1\xbf", "\xe0\x83\xb1", "\xf0\x80\x83\xb1",         /* spelt in too many bytes */
+        "\xed\xa0\x80", "\xf4\x90\x80\x80", "\xf9\x80\x80\x80", "\xff"      /* no character at all */
+    };
+    static const char *const foreign[] = {
+        "\xc4\x80", "\xd3\xb1", "\xe2\x82\xac", "\xf0\x9f\x9a\xaa",         /* U+0100, 04F1, 20AC, 1F6AA */
+        "n\xcc\x83"                                                         /* n and its tilde apart */
+    };
+    size_t i;
+
+    (void)state;
+    for (i = 0; i < sizeof malformed / sizeof *malformed; i++)
+        assert_refused(malformed[i], LATIN1_NOT_UTF8);
+    for (i = 0; i < sizeof foreign / sizeof *foreign; i++)
+        assert_refused(foreign[i], LATIN1_NO_CHARACTER);
+}
+
+/* The length ends a text, also in a character whose other half lies behind it. */
+static void no_byte_is_read_behind_a_text(void **state)
+{
+    uint8_t label[CREP_LABEL];
+    size_t len;
+
+    (void)state;
+    assert_int_equal(latin1_from_utf8(nunez, 2, label, sizeof label, &len), LATIN1_NOT_UTF8);
+    assert_int_equal(latin1_from_utf8(nunez, 3, label, sizeof label, &len), LATIN1_OK);
+    assert_int_equal(len, 2);
+    assert_memory_equal(label, nunez_label, len);
+}
+
+/* In every room that is too small a conversion is refused, and what lies behind the room stays. */
+static void too_little_room_is_refused(void **state)
+{
+    uint8_t label[sizeof nunez_label];
+    char text[sizeof nunez];
+    size_t room, len;
+
+    (void)state;
+    for (room = 0; room < sizeof label; room++) {
+        memset(label, '#', sizeof label);
+        len = 99;
+        assert_int_equal(latin1_from_utf8(nunez, strlen(nunez), label, room, &len), LATIN1_NO_ROOM);
+        assert_int_equal(len, 0);
+        assert_int_equal(label[room], '#');
+    }
+    for (room = 0; room < strlen(nunez); room++) {
+        memset(text, '#', sizeof text);
+        len = 99;
+        assert_int_equal(latin1_to_utf8(nunez_label, sizeof nunez_label, text, room, &len), LATIN1_NO_ROOM);
+        assert_int_equal(len, 0);
+        assert_int_equal(text[room], '#');
+    }
+    assert_int_equal(latin1_from_utf8(nunez, strlen(nunez), label, sizeof label, &len), LATIN1_OK);
+    assert_int_equal(latin1_to_utf8(nunez_label, sizeof nunez_label, text, strlen(nunez), &len), LATIN1_OK);
+}
+
 int main(void)
 {
     const struct CMUnitTest tests[] = {
@@ -291,6 +408,11 @@ int main(void)
         cmocka_unit_test_setup(the_map_follows_a_cut, new_board),
         cmocka_unit_test_setup(a_trace_runs_again, new_board),
         cmocka_unit_test_setup(one_pin_at_a_time, new_board),
+        cmocka_unit_test_setup(an_accented_label_comes_back, new_board),
+        cmocka_unit_test(every_character_goes_there_and_back),
+        cmocka_unit_test(bad_text_is_refused),
+        cmocka_unit_test(no_byte_is_read_behind_a_text),
+        cmocka_unit_test(too_little_room_is_refused),
     };
 
     return cmocka_run_group_tests_name("gate memory", tests, NULL, NULL);

@@ -1,14 +1,16 @@
 /*
  * A firmware's test on the host: the driver of driver.c runs on the board of board.c in place of a panel. It writes a
  * gate's record and reads it back, shows what a label of 27 characters does, hangs the bus and frees it, plays the
- * events of crep_send, adds a gate in the first free sector, and loses its power in a cycle. Prints a report; the exit
- * status is 1 where a step did not go as expected, 2 where the test itself went wrong.
+ * events of crep_send, adds a gate in the first free sector, loses its power in a cycle, and gives a gate a label with
+ * accents. Prints a report in UTF-8; the exit status is 1 where a step did not go as expected, 2 where the test itself
+ * went wrong.
  */
 #include <stdio.h>
 #include <string.h>
 
 #include "board.h"
 #include "driver.h"
+#include "latin1.h"
 
 enum { GATE = 7, SENT = 17, LOCKED = 511, OLD_GATES = 3, SELECT = 2, POLLS = 3 };
 
@@ -35,6 +37,27 @@ static void show_sector(void)
     printf("\n");
 }
 
+/* The name that a panel shows for a record, and its length. */
+static const uint8_t *name_of(const uint8_t *bytes, size_t *len)
+{
+    static const uint8_t standard[] = { 'G', 'A', 'T', 'E' };
+    uint8_t from_record;
+    size_t start;
+
+    crep_name(bytes, CREP_RECORD, standard, sizeof standard, &start, len, &from_record);
+    return (from_record ? bytes : standard) + start;
+}
+
+static void show_name(const uint8_t *bytes)
+{
+    size_t len;
+    const uint8_t *name = name_of(bytes, &len);
+
+    printf("          name shown: \"");
+    latin1_print(name, len);
+    printf("\"\n");
+}
+
 /* What a panel would make of the sector's first two bytes. */
 static int closed_limit(void)
 {
@@ -54,8 +77,6 @@ static uint8_t read_gate(int32_t *closed, int32_t *opened, int32_t *travel)
 static void report_record(void)
 {
     int32_t closed, opened, travel;
-    size_t start, len;
-    uint8_t from_record;
 
     printf("1. A gate's record goes over the wires and comes back\n");
     step(memory_enable(SELECT) && board_note() == CREP_NOTE_LATCH, "02h to the register: PEL set (note 3)");
@@ -68,8 +89,8 @@ static void report_record(void)
     show_sector();
     step(read_gate(&closed, &opened, &travel) == CREP_OK && closed == 150 && opened == -200 && travel == -350,
          "read back: limits 150 and -200, travel -350");
-    crep_name(sector, CREP_RECORD, (const uint8_t *)"GATE", 4, &start, &len, &from_record);
-    printf("          name shown: \"%.*s\"\n\n", (int)len, (const char *)sector + start);
+    show_name(sector);
+    printf("\n");
 }
 
 /* The old kit's mistake: the label alone, unchecked, at its place in the sector. */
@@ -303,6 +324,69 @@ static void report_cut(void)
     printf("\n");
 }
 
+/* Labels in UTF-8, as a terminal gives them: Portón Núñez, Ávila, ÿ; and the first misread, PortÃ³n NÃºÃ±ez. The bytes
+ * are spelt out, so that they do not depend on how this file is saved. */
+static const char typed[] = "Port\xc3\xb3n N\xc3\xba\xc3\xb1" "ez";
+static const char capital[] = "\xc3\x81vila";
+static const char last[] = "\xc3\xbf";
+static const char misread[] = "Port\xc3\x83\xc2\xb3n N\xc3\x83\xc2\xba\xc3\x83\xc2\xb1" "ez";
+
+/* Makes the record at hand with a label as it is given. */
+static uint8_t labelled(const void *bytes, size_t n)
+{
+    return crep_record_write(record, sizeof record, 150, -200, bytes, n);
+}
+
+/* The same with a label in UTF-8, which is converted into n bytes first; 255 where it is not. */
+static uint8_t labelled_utf8(const char *text, size_t n)
+{
+    uint8_t bytes[CREP_LABEL];
+    size_t len;
+
+    if (latin1_from_utf8(text, strlen(text), bytes, sizeof bytes, &len) != LATIN1_OK || len != n)
+        return 255;
+    return labelled(bytes, len);
+}
+
+/* Sends the record at hand, and reads into bytes what the chip then holds. */
+static int send_and_read(uint8_t *bytes)
+{
+    return memory_send_record(SELECT, GATE, record) && board_note() == CREP_NOTE_STORED
+        && memory_read_sector(SELECT, GATE, bytes);
+}
+
+/* The name of a record is this text in UTF-8. */
+static int name_is(const uint8_t *bytes, const char *text)
+{
+    char shown[LATIN1_NAME];
+    size_t len, n;
+    const uint8_t *name = name_of(bytes, &len);
+
+    return latin1_to_utf8(name, len, shown, sizeof shown, &n) == LATIN1_OK
+        && n == strlen(text) && memcmp(shown, text, n) == 0;
+}
+
+static void report_accents(void)
+{
+    uint8_t bytes[CREP_RECORD] = { 0 };
+
+    printf("7. A label with accents\n");
+    board_new(CREP_X24F128, SELECT);
+    board.polls = POLLS;
+    step(labelled_utf8(typed, 12) == CREP_OK, "15 bytes of UTF-8, converted into 12 of ISO 8859-1: the kit takes them");
+    step(send_and_read(bytes) && name_is(bytes, typed),
+         "the record is sent: stored (note 1), read back over the wires, its name is as typed");
+    show_name(bytes);
+    step(labelled(typed, strlen(typed)) == CREP_OK && send_and_read(bytes) && name_is(bytes, misread),
+         "the same without converting: the kit takes the 15 bytes, as 15 characters");
+    show_name(bytes);
+    step(labelled(capital, strlen(capital)) == CREP_REFUSED_LABEL_BYTE && labelled_utf8(capital, 5) == CREP_OK,
+         "a capital A with acute in front: refused without converting (9, byte 81h), taken after it");
+    step(labelled_utf8(last, 1) == CREP_REFUSED_LABEL_BYTE,
+         "U+00FF is converted into FFh, and the kit refuses that byte (9)");
+    printf("\n");
+}
+
 int main(void)
 {
     printf("Gate memory on the bench: X24128, select %d, gate %d in sector %d\n\n", SELECT, GATE, GATE);
@@ -315,6 +399,7 @@ int main(void)
     report_sender();
     report_map();
     report_cut();
+    report_accents();
     if (wrong)
         printf("%d steps WRONG\n", wrong);
     else

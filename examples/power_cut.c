@@ -14,6 +14,7 @@
 
 #include "board.h"
 #include "driver.h"
+#include "latin1.h"
 
 enum { GATE = 7, SELECT = 2, IN_CYCLE = CREP_SEND - 1, RANDOM = 1000 };
 
@@ -252,8 +253,11 @@ static void print_record(const char *text, const uint8_t *record)
     int32_t closed, opened, travel;
     uint8_t length, free_record;
 
-    if (crep_record_read(record, CREP_RECORD, &closed, &opened, &travel, &length, &free_record) == CREP_OK)
-        printf("%s \"%.*s\", %d to %d\n", text, (int)length, (const char *)record + 6, (int)closed, (int)opened);
+    if (crep_record_read(record, CREP_RECORD, &closed, &opened, &travel, &length, &free_record) != CREP_OK)
+        return;
+    printf("%s \"", text);
+    latin1_print(record + 6, length);
+    printf("\", %d to %d\n", (int)closed, (int)opened);
 }
 
 int main(void)

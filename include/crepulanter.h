@@ -68,8 +68,8 @@
 extern "C" {
 #endif
 
-#define CREP_VERSION "0.7.0"
-#define CREP_VERSION_NUMBER 700         /* the same for #if: 10000 * first + 100 * second + third */
+#define CREP_VERSION "0.8.0"
+#define CREP_VERSION_NUMBER 800         /* the same for #if: 10000 * first + 100 * second + third */
 
 /* Before a call whose result must not be dropped: the compiler warns where it is. */
 #if defined(__GNUC__)
@@ -86,7 +86,7 @@ extern "C" {
 #define CREP_SECTORS 512        /* sectors of the array */
 #define CREP_MAP 64             /* bytes of a map: a bit for each sector */
 #define CREP_RECORD 32          /* bytes of a gate's record: one sector */
-#define CREP_LABEL 24           /* the longest label */
+#define CREP_LABEL 24           /* the longest label: bytes, each one a character */
 #define CREP_TRACE 65536        /* the longest trace of one crep_run or crep_map_run */
 #define CREP_PULSES 10          /* the most pulses that crep_recover makes */
 #define CREP_SEND 713           /* events that crep_send writes */
@@ -150,7 +150,7 @@ extern "C" {
 #define CREP_REFUSED_EVENT 6            /* an event byte above 11 */
 #define CREP_REFUSED_RECORD_LENGTH 7    /* record_len is not 32 */
 #define CREP_REFUSED_LABEL_LENGTH 8     /* label_len above 24 */
-#define CREP_REFUSED_LABEL_BYTE 9       /* a label byte outside 20h-7Eh */
+#define CREP_REFUSED_LABEL_BYTE 9       /* a label byte outside 20h-7Eh and A1h-FEh */
 #define CREP_REFUSED_LIMIT 10           /* a limit outside -30000..30000 */
 #define CREP_REFUSED_EQUAL_LIMITS 11    /* the two limits are equal */
 #define CREP_REFUSED_STATE_BYTE 12      /* state byte is not A5h (reading: and the record is not free) */
@@ -275,9 +275,14 @@ CREP_CHECKED uint8_t crep_recover(struct crep_chip *chip, uint8_t *array, size_t
 /*
  * Writes a gate's record, 32 bytes for one sector: 0-1 closed limit, 2-3 open limit (two's complement, high byte
  * first), 4 A5h, 5 label length, 6-29 label padded with 20h, 30-31 sum of bytes 0-29 (high byte first).
- * Limits in encoder counts. Refuses with 7, 8, 9, 10, 11; the record then keeps its bytes.
+ * Limits in encoder counts. The label is up to 24 characters of ISO 8859-1, a byte each: 20h-7Eh and A1h-FEh are good,
+ * 7Fh-A0h and FFh are refused with 9.
+ * Refuses with 7, 8, 9, 10, 11; the record then keeps its bytes.
  * WARNING: label must not lie in record. crep_record_write(r, 32, closed, opened, r + 6, r[5]) is not refused and
  * leaves a record whose label is lost; to change the limits and keep the label, call crep_record_limits.
+ * WARNING: a string from a UTF-8 source or terminal is not ISO 8859-1. An e with acute, E9h, is C3h A9h there and would
+ * be taken as two other characters; an A with acute, C1h, is C3h 81h there and refused with 9. Convert it first, as
+ * latin1_from_utf8 of examples/latin1.h does.
  */
 CREP_CHECKED uint8_t crep_record_write(uint8_t *record, size_t record_len, int32_t closed, int32_t opened,
                                        const uint8_t *label, size_t label_len);
@@ -301,6 +306,7 @@ CREP_CHECKED uint8_t crep_record_read(const uint8_t *record, size_t record_len, 
 /*
  * Where the name to show lies: *len bytes from *start. With *from_record 1 they are in record, the label without its
  * trailing spaces; with 0 they are in standard, the whole of it, since the record is free, refused or blank.
+ * A name in record is ISO 8859-1, to be converted where a terminal shows UTF-8; standard is whatever you lent.
  * It always answers: the number returned is 0 for any lengths and any bytes, and standard is not checked. So this
  * result alone may be dropped.
  */
@@ -415,7 +421,7 @@ static inline const char *crep_refusal_text(int refusal)
         "an event byte above 11",
         "record buffer is not 32 bytes",
         "label over 24 bytes",
-        "a label byte outside 20h-7Eh",
+        "a label byte outside 20h-7Eh and A1h-FEh",
         "a limit outside -30000..30000",
         "the two limits are equal",
         "state byte is not A5h: no gate's record",
