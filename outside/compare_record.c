@@ -166,6 +166,19 @@ static void show_shown(const char *name, const struct shown *s)
            s->from_record);
 }
 
+/* Which of the three kinds of tally.shown a name is. */
+static int kind_of(const struct shown *s, const uint8_t *record)
+{
+    size_t i;
+
+    if (!s->from_record)
+        return 0;
+    for (i = s->start; i < s->start + s->len; i++)
+        if (record[i] > 0x7e)
+            return 2;
+    return 1;
+}
+
 int compare_name(struct chance *chance)
 {
     uint8_t record[ROOM], standard[ROOM];
@@ -180,6 +193,7 @@ int compare_name(struct chance *chance)
     if (library.start == model.start && library.len == model.len && library.refusal == model.refusal
         && library.from_record == model.from_record) {
         tally.names++;
+        tally.shown[kind_of(&model, record)]++;
         return 0;
     }
     tally_difference("crep_name");

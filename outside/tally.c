@@ -37,6 +37,7 @@ int tally_print(void)
     missing += row("refusals", tally.refusals, 0, 18);
     missing += row("phases", tally.phases, 0, 11);
     missing += row("pulses", tally.pulses, 1, 10);
+    missing += row("shown", tally.shown, 0, 2);
     missing += row("locked", tally.locked, 0, 1);
     missing += row("short", tally.short_loads, 0, 2);
     missing += row("waits", tally.waits, 0, 5);

@@ -11,6 +11,7 @@ struct tally {
     uint64_t refusals[19];
     uint64_t phases[12];
     uint64_t pulses[11];
+    uint64_t shown[3];          /* names: the standard label, a label of plain characters, one with accents */
     uint64_t locked[2];         /* records sent to a chip for which they are: its sector not locked, locked */
     uint64_t short_loads[3];    /* on an X24F128: spoilt with FFh, spoilt with another byte, stopped by a lock */
     uint64_t waits[6];          /* what waits after an event: nothing, a sector, a register byte; idle, then busy */
@@ -27,8 +28,8 @@ extern struct tally tally;
 /* Prints where the comparison stands, as the head of a report of a difference. */
 void tally_difference(const char *call);
 
-/* Prints the counts. Returns how many notes, refusals, phases, pulse numbers, kinds of sector, ends of a short load,
- * kinds of wait and of its end, changes of a map's bit and kinds of first free were never reached. */
+/* Prints the counts. Returns how many notes, refusals, phases, pulse numbers, kinds of name and of sector, ends of a short
+ * load, kinds of wait and of its end, changes of a map's bit and kinds of first free were never reached. */
 int tally_print(void);
 
 #endif
