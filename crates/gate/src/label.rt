@@ -4,7 +4,7 @@ ghost use Prim.Native.Nat.{_≤_};
 ghost use lib.ListN.{length};
 ghost use Rattle.gate.specs.Label.{labelByte, isLabel, trimmedLength};
 
-// Whether a byte may stand in a label: a character of ISO 8859-1 that prints, or the space 20h.
+// Whether a byte may stand in a label: 20h-7Eh and A1h-FEh, characters of ISO 8859-1.
 pub(crate) fn label_byte(b: u8) -> bool
     ensures { λ r. ⌜ r ≡ labelByte b ⌝ }
 {
