@@ -1,4 +1,7 @@
-/* Random numbers that a seed repeats on any machine (splitmix64). */
+/*
+ * Random numbers that a seed repeats on any machine (splitmix64). C leaves open which of two arguments, operands or sides
+ * of an assignment comes first, so no expression draws twice but by ?:, && and ||, or in an argument of what draws next.
+ */
 #ifndef CHANCE_H
 #define CHANCE_H
 
@@ -47,6 +50,20 @@ static inline void chance_fill(struct chance *c, uint8_t *bytes, size_t n)
 
     for (i = 0; i < n; i++)
         bytes[i] = chance_byte(c);
+}
+
+/* Puts a byte at one of n places. */
+static inline void chance_put(struct chance *c, uint8_t *bytes, size_t n, uint8_t byte)
+{
+    bytes[chance_below(c, (uint32_t)n)] = byte;
+}
+
+/* Turns one bit of n bytes over. */
+static inline void chance_flip(struct chance *c, uint8_t *bytes, size_t n)
+{
+    uint8_t bit = (uint8_t)(1u << chance_below(c, 8));
+
+    bytes[chance_below(c, (uint32_t)n)] ^= bit;
 }
 
 #endif

@@ -3,6 +3,7 @@
 #define COMPARE_H
 
 #include "chance.h"
+#include "crepulanter.h"
 
 int compare_new(void);                                  /* every part and select byte */
 int compare_events(struct chance *chance);              /* a trace, event by event, then whole */
@@ -22,5 +23,8 @@ int compare_map_chips(struct chance *chance);           /* one event with a map 
 int compare_map_power_ups(struct chance *chance);       /* a power-up with any choices and a map, likewise */
 int compare_map_traces(struct chance *chance);          /* traces with a map that ask to be refused */
 int compare_map_send(struct chance *chance);            /* a record sent to the first free sector */
+
+/* Makes a new chip of either part, with any select. */
+void new_chip(struct chance *chance, struct crep_chip *chip);
 
 #endif

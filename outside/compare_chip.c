@@ -362,10 +362,17 @@ static int compare_run(const char *call, runner *run, const struct crep_chip *ch
     return 0;
 }
 
+void new_chip(struct chance *chance, struct crep_chip *chip)
+{
+    uint8_t part = (uint8_t)chance_below(chance, 2), select = (uint8_t)chance_below(chance, 8);
+
+    kit_model.make(chip, part, select);
+}
+
 /* A chip as new, or any chip in range that is in standby or not. */
 static void first_chip(struct chance *chance, struct crep_chip *chip)
 {
-    kit_model.make(chip, (uint8_t)chance_below(chance, 2), (uint8_t)chance_below(chance, 8));
+    new_chip(chance, chip);
     if (chance_once_in(chance, 2))
         stir_chip(chance, chip);
 }
@@ -417,8 +424,7 @@ int compare_traces(struct chance *chance)
     if (kind == 1)
         stir_out_of_range(chance, &chip);
     if (kind <= 3 && n.trace > 0)
-        trace[chance_once_in(chance, 2) ? n.trace - 1 : chance_below(chance, (uint32_t)n.trace)] =
-            stir_no_event(chance);
+        stir_bad_event(chance, trace, n.trace);
     same_start(chance, &chip);
     return compare_run("crep_run", kit_library.run, &chip, &n);
 }

@@ -49,7 +49,7 @@ static void stir_map(struct chance *chance, const uint8_t *array, uint8_t *map)
     if (kind == 5 || kind == 6)
         memset(map, kind == 5 ? 0x00 : 0xff, CREP_MAP);
     if (kind == 7)
-        map[chance_below(chance, CREP_MAP)] ^= (uint8_t)(1u << chance_below(chance, 8));
+        chance_flip(chance, map, CREP_MAP);
 }
 
 static void copy_model(struct side *side)
@@ -86,7 +86,7 @@ static void first_chip(struct chance *chance, struct crep_chip *chip)
     if (chance_once_in(chance, 2)) {
         uint8_t spoil = chip->spoil;
 
-        kit_model.make(chip, (uint8_t)chance_below(chance, 2), (uint8_t)chance_below(chance, 8));
+        new_chip(chance, chip);
         chip->spoil = spoil;
     }
     if (chance_once_in(chance, 6))
@@ -254,9 +254,12 @@ int compare_map_first(struct chance *chance)
     memset(library.map, 0xff, CREP_MAP);
     if (chance_once_in(chance, 4))
         chance_fill(chance, library.map, CREP_MAP);
-    while (holes-- > 0)
+    while (holes-- > 0) {
+        uint8_t bit = (uint8_t)(1u << chance_below(chance, 8));
+
         library.map[chance_once_in(chance, 2) ? chance_of(chance, bytes, 6) : chance_below(chance, CREP_MAP)]
-            &= (uint8_t)~(1u << chance_below(chance, 8));
+            &= (uint8_t)~bit;
+    }
     memset(library.map + CREP_MAP, chance_once_in(chance, 2) ? 0x00 : 0xff, MARGIN);
     memcpy(model.map, library.map, sizeof model.map);
     library.first = model.first = (uint16_t)chance_word(chance);
@@ -428,8 +431,7 @@ int compare_map_traces(struct chance *chance)
     if (kind == 1)
         stir_out_of_range(chance, &chip);
     if (kind <= 3 && n.trace > 0)
-        trace[chance_once_in(chance, 2) ? n.trace - 1 : chance_below(chance, (uint32_t)n.trace)] =
-            stir_no_event(chance);
+        stir_bad_event(chance, trace, n.trace);
     same_start(chance, &chip);
     if (compare_run(&n))
         return 1;
@@ -443,7 +445,7 @@ int compare_map_traces(struct chance *chance)
 /* A chip that takes it, most times; the sector may be locked. */
 static void ready(struct chance *chance, struct crep_chip *chip)
 {
-    kit_model.make(chip, (uint8_t)chance_below(chance, 2), (uint8_t)chance_below(chance, 8));
+    new_chip(chance, chip);
     chip->bl = (uint8_t)chance_below(chance, 4);
     chip->rpel = chance_once_in(chance, 10);
     chip->busy = chance_once_in(chance, 10);

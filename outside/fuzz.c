@@ -215,7 +215,7 @@ static struct lent_run lend_run(struct chance *chance)
     wire_open(&wire, l.trace, n);
     stir_trace(chance, &wire, l.chip->select & 7);
     if (n > 0 && chance_once_in(chance, 6))
-        l.trace[chance_below(chance, (uint32_t)n)] = chance_byte(chance);
+        chance_put(chance, l.trace, n, chance_byte(chance));
     keep(2);
     return l;
 }
@@ -243,11 +243,12 @@ static void fuzz_record_write(struct chance *chance)
     size_t n = stir_length(chance, 32, 100), m = chance_once_in(chance, 3) ? stir_length(chance, 24, 100)
                                                                             : chance_below(chance, 25);
     uint8_t *record = lend(chance, 0, n), *label = lend(chance, 1, m);
+    int32_t closed = stir_limit(chance), opened = stir_limit(chance);
 
     stir_label(chance, label, m);
     keep(1);
     doing = "crep_record_write";
-    check(crep_record_write(record, n, stir_limit(chance), stir_limit(chance), label, m) <= 11);
+    check(crep_record_write(record, n, closed, opened, label, m) <= 11);
     take_all_back(2);
 }
 
@@ -268,9 +269,10 @@ static void fuzz_record_limits(struct chance *chance)
 {
     size_t n;
     uint8_t *record = lend_record(chance, 0, &n);
+    int32_t closed = stir_limit(chance), opened = stir_limit(chance);
 
     doing = "crep_record_limits";
-    check(crep_record_limits(record, n, stir_limit(chance), stir_limit(chance)) <= 14);
+    check(crep_record_limits(record, n, closed, opened) <= 14);
     take_all_back(1);
 }
 

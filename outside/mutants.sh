@@ -7,7 +7,7 @@ set -eu
 build=$1
 shift
 compile="${CC:-cc} -std=c99 -O1 -w -I../include -I."
-events=${EVENTS:-2000000}
+events=${EVENTS:-10000000}
 found=0
 missed=0
 shown=0

@@ -148,7 +148,7 @@ static void stir_wait_out_of_range(struct chance *chance, struct crep_chip *chip
     stir_wait(chance, chip, at < 2 ? 1 : 2);
     switch (at) {
     case 0: chip->wait_high = above(chance, 2); chip->wait_low = flag(chance) ? 0 : chance_byte(chance); break;
-    case 1: chip->wait_places[chance_below(chance, 32)] = above(chance, 2); break;
+    case 1: chance_put(chance, chip->wait_places, 32, above(chance, 2)); break;
     case 2: chip->wait_ppen = above(chance, 2); break;
     case 3: chip->wait_bl = above(chance, 4); break;
     default: chip->wait = above(chance, 3); break;
@@ -158,6 +158,7 @@ static void stir_wait_out_of_range(struct chance *chance, struct crep_chip *chip
 void stir_out_of_range(struct chance *chance, struct crep_chip *chip)
 {
     uint8_t *flags[] = { &chip->ppen, &chip->rpel, &chip->pel, &chip->mark, &chip->busy, &chip->scl, &chip->line };
+    uint8_t *one = flags[chance_below(chance, 7)];
 
     switch (chance_below(chance, 14)) {
     case 0: chip->part = above(chance, 2); break;
@@ -166,11 +167,11 @@ void stir_out_of_range(struct chance *chance, struct crep_chip *chip)
     case 3: chip->counter_high = above(chance, 0x40); break;
     case 4: chip->count = above(chance, 34); break;
     case 5: chip->phase = above(chance, 12); break;
-    case 6: chip->places[chance_below(chance, 32)] = above(chance, 2); break;
+    case 6: chance_put(chance, chip->places, 32, above(chance, 2)); break;
     case 7: chip->phase = (uint8_t)(1 + chance_below(chance, 4)); chip->bits = above(chance, 9); break;
     case 8: chip->phase = CREP_PHASE_SENDING; chip->bits = above(chance, 8); break;
     case 9: case 10: case 11: stir_wait_out_of_range(chance, chip); break;
-    default: *flags[chance_below(chance, 7)] = above(chance, 2); break;
+    default: *one = above(chance, 2); break;
     }
 }
 
@@ -192,6 +193,16 @@ uint8_t stir_end(struct chance *chance)
 uint8_t stir_no_event(struct chance *chance)
 {
     return (uint8_t)(flag(chance) ? 12 : 12 + chance_below(chance, 244));
+}
+
+void stir_bad_event(struct chance *chance, uint8_t *trace, size_t n)
+{
+    uint8_t byte = stir_no_event(chance);
+
+    if (flag(chance))
+        trace[n - 1] = byte;
+    else
+        chance_put(chance, trace, n, byte);
 }
 
 uint32_t stir_choices(struct chance *chance)
@@ -228,10 +239,10 @@ static uint32_t stir_address(struct chance *chance)
 static void a_command(struct chance *chance, struct wire *wire, int select)
 {
     static const uint32_t commands[] = { 0x02, 0x02, 0x02, 0x06, 0x06, 0x00 };
-    uint32_t byte = ONE_OF(chance, commands);
+    uint32_t byte = ONE_OF(chance, commands), bl = chance_below(chance, 4);
 
     if (chance_once_in(chance, 3))
-        byte = 0x02 | chance_below(chance, 4) << 3 | chance_below(chance, 2) << 7;
+        byte = 0x02 | bl << 3 | chance_below(chance, 2) << 7;
     if (chance_once_in(chance, 12))
         byte = chance_byte(chance);
     wire_register(wire, select, (uint8_t)byte);
@@ -251,6 +262,7 @@ static void a_locking(struct chance *chance, struct wire *wire, int select)
 static void a_write(struct chance *chance, struct wire *wire, int select)
 {
     static const uint32_t sizes[] = { 0, 1, 2, 5, 26, 27, 31, 32, 32, 32, 32, 33, 34, 40, 64, 65 };
+    uint32_t address = stir_address(chance);
     uint8_t bytes[65];
 
     chance_fill(chance, bytes, sizeof bytes);
@@ -258,13 +270,15 @@ static void a_write(struct chance *chance, struct wire *wire, int select)
         memset(bytes, 0xff, sizeof bytes);
     if (flag(chance))
         wire_register(wire, select, 0x02);
-    wire_write(wire, select, stir_address(chance), bytes, ONE_OF(chance, sizes));
+    wire_write(wire, select, address, bytes, ONE_OF(chance, sizes));
     an_end(chance, wire);
 }
 
 static void a_read(struct chance *chance, struct wire *wire, int select)
 {
-    wire_read(wire, select, stir_address(chance), 1 + chance_below(chance, chance_once_in(chance, 8) ? 40 : 3));
+    uint32_t address = stir_address(chance);
+
+    wire_read(wire, select, address, 1 + chance_below(chance, chance_once_in(chance, 8) ? 40 : 3));
 }
 
 static void a_current_read(struct chance *chance, struct wire *wire, int select)
@@ -484,12 +498,12 @@ static void lay_out(struct chance *chance, uint8_t *record)
 static void damage(struct chance *chance, uint8_t *record)
 {
     switch (chance_below(chance, 6)) {
-    case 0: record[chance_below(chance, 32)] = chance_byte(chance); break;
+    case 0: chance_put(chance, record, 32, chance_byte(chance)); break;
     case 1: record[5] = (uint8_t)chance_below(chance, 40); break;
-    case 2: record[6 + chance_below(chance, 24)] = odd_byte(chance); break;
+    case 2: chance_put(chance, record + 6, 24, odd_byte(chance)); break;
     case 3: record[2] = record[0]; record[3] = record[1]; break;
     case 4: record[4] ^= (uint8_t)(1u << chance_below(chance, 8)); break;
-    default: record[30 + chance_below(chance, 2)] ^= (uint8_t)(1u << chance_below(chance, 8)); break;
+    default: chance_flip(chance, record + 30, 2); break;
     }
     if (!chance_once_in(chance, 3))
         put_sum(record);
@@ -507,7 +521,7 @@ void stir_record(struct chance *chance, uint8_t *record)
     if (kind == 9)
         memset(record, 0xff, 32);
     if (kind == 9 && flag(chance))
-        record[chance_below(chance, 32)] = chance_byte(chance);
+        chance_put(chance, record, 32, chance_byte(chance));
 }
 
 static void stir_gate(struct chance *chance, uint8_t *record)
@@ -518,7 +532,7 @@ static void stir_gate(struct chance *chance, uint8_t *record)
     if (kind < 2)
         memset(record, kind == 0 ? 0xff : chance_byte(chance), 32);
     if (kind == 0)
-        record[chance_below(chance, 32)] ^= (uint8_t)(1u << chance_below(chance, 8));
+        chance_flip(chance, record, 32);
 }
 
 /* A few records, each in many sectors: 512 of their own would take longer than what is compared on them. */

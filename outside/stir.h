@@ -35,6 +35,9 @@ uint8_t stir_end(struct chance *chance);
 /* A byte that is no event: the first of them often. */
 uint8_t stir_no_event(struct chance *chance);
 
+/* Puts one into a trace that is not empty, at its end every second time. */
+void stir_bad_event(struct chance *chance, uint8_t *trace, size_t n);
+
 /* The 32 choices of a power-up: any, or all, none, a half, one alone, all but one. */
 uint32_t stir_choices(struct chance *chance);
 

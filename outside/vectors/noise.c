@@ -24,6 +24,6 @@ int main(int argc, char **argv)
     wire_open(&wire, events, n);
     stir_trace(&chance, &wire, 0);
     if (n > 0 && chance_once_in(&chance, 8))
-        events[chance_once_in(&chance, 2) ? n - 1 : chance_below(&chance, n)] = stir_no_event(&chance);
+        stir_bad_event(&chance, events, n);
     return fwrite(events, 1, n, stdout) != n;
 }
