@@ -17,7 +17,7 @@ use Rattle.chip.specs.declared.chip.Chip.{Chip}
 
 -- the seven ranges that refusal 2 looks at
 pub record Within (p s b k : ℕ) (at : Phase) (n : ℕ) (t : Target) : Type 0 where
-  pub part : p ≤ 1
+  pub part : p ≤ 2
   pub select : s ≤ 7
   pub bl : b ≤ 3
   pub counter : k ≤ 0x3fff
@@ -44,9 +44,9 @@ seven a b c d e f g h =
 pub fits-of : (c : Chip) → chipFits c ≡ true → Fits c
 unfolding chipFits
 fits-of c h =
-    let t = seven (leb (c .part) 1) (leb (c .select) 7) (leb (c .register .bl) 3) (leb (c .counter) 0x3fff) (phaseFits (c .phase)) (leb (c .load .count) 33) (targetFits (c .wait .target)) h in
+    let t = seven (leb (c .part) 2) (leb (c .select) 7) (leb (c .register .bl) 3) (leb (c .counter) 0x3fff) (phaseFits (c .phase)) (leb (c .load .count) 33) (targetFits (c .wait .target)) h in
     record {
-      part = leb-true (c .part) 1 (t .0);
+      part = leb-true (c .part) 2 (t .0);
       select = leb-true (c .select) 7 (t .1);
       bl = leb-true (c .register .bl) 3 (t .2);
       counter = leb-true (c .counter) 0x3fff (t .3);
@@ -61,12 +61,12 @@ unfolding chipFits
 fits-so c f = rw (le-leb _ _ (f .part), le-leb _ _ (f .select), le-leb _ _ (f .bl), le-leb _ _ (f .counter), f .phase, le-leb _ _ (f .count), f .target)
 
 -- a chip at power-up is in range if its part, select and BL are
-pub up-fits : (part select : ℕ) (ppen : Bool) (bl spoil : ℕ) → part ≤ 1 → select ≤ 7 → bl ≤ 3 → Fits (atPowerUp part select ppen bl spoil)
+pub up-fits : (part select : ℕ) (ppen : Bool) (bl spoil : ℕ) → part ≤ 2 → select ≤ 7 → bl ≤ 3 → Fits (atPowerUp part select ppen bl spoil)
 unfolding phaseFits targetFits
 up-fits part select ppen bl spoil p s b = record { part = p; select = s; bl = b; counter = omega arith; phase = refl; count = omega arith; target = refl }
 
 -- a new chip is in range
-pub new-fits : (part select : ℕ) → part ≤ 1 → select ≤ 7 → chipFits (newChip part select) ≡ true
+pub new-fits : (part select : ℕ) → part ≤ 2 → select ≤ 7 → chipFits (newChip part select) ≡ true
 new-fits part select p s = fits-so (newChip part select) (up-fits part select false 0 0xff p s (omega arith))
 
 -- a cycle that ends leaves BL in its range
@@ -84,8 +84,8 @@ power-fits choices c f = up-fits (c .part) (c .select) (cutRegister choices c .p
 pub made-fits : (part select : ℕ) → chipFits (made part select .chip) ≡ true
 unfolding made
 made-fits part select =
-    cond-by Fit (leb part 1 && leb select 7) _ _
-    (λ b. new-fits part select (leb-true part 1 (and-left (leb part 1) _ b)) (leb-true select 7 (and-right (leb part 1) _ b)))
+    cond-by Fit (leb part 2 && leb select 7) _ _
+    (λ b. new-fits part select (leb-true part 2 (and-left (leb part 2) _ b)) (leb-true select 7 (and-right (leb part 2) _ b)))
     (λ b. new-fits 1 0 (omega arith) (omega arith))
   where
     Fit : Made → Type 0

@@ -2,6 +2,7 @@ pub mod CutLaws
 pub mod EventLaws
 pub mod FitLaws
 pub mod LockLaws
+pub mod PartLaws
 pub mod Posed
 pub mod PullLaws
 pub mod RangeLaws

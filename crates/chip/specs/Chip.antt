@@ -100,11 +100,11 @@ withSpoil c spoil =
       wait = c .wait;
     }
 
--- C1-C3, C7-C9, C16, F2: part 0-1, select 0-7, BL 0-3, counter 0-3FFFh, the phase's own where it carries them (reading), count 0-33, and the waiting sector or
+-- C1-C3, C7-C9, C16, F2: part 0-2, select 0-7, BL 0-3, counter 0-3FFFh, the phase's own where it carries them (reading), count 0-33, and the waiting sector or
 -- BL where one is carried
 unfoldable pub chipFits : Chip → Bool
 chipFits c =
-    leb (c .part) 1
+    leb (c .part) 2
     && leb (c .select) 7
     && leb (c .register .bl) 3
     && leb (c .counter) 0x3fff
@@ -154,7 +154,7 @@ newChip part select = atPowerUp part select false 0 0xff
 abbrev pub standardChip : Chip
 standardChip = newChip 1 0
 
--- F3, O1: for a part above 1 or a select above 7 refusal 3, with the standard chip
+-- F3, O1: for a part above 2 or a select above 7 refusal 3, with the standard chip
 unfoldable pub made : ℕ → ℕ → Made
 made part select =
-    cond (leb part 1 && leb select 7) (record { refusal = 0; chip = newChip part select }) (record { refusal = 3; chip = standardChip })
+    cond (leb part 2 && leb select 7) (record { refusal = 0; chip = newChip part select }) (record { refusal = 3; chip = standardChip })

@@ -1,5 +1,5 @@
--- What a part reads of its chip, one line for each rule that parts could differ in: the mark, PEL, the register's address, the count. Where a
--- flag decides, it is tested before the part.
+-- What a part reads of its chip, one line for each rule that parts differ in: the register's address, the mark, PEL, the count. Where a flag
+-- decides, it is tested before the part.
 --
 -- | Name | Meaning |
 -- |---|---|
@@ -8,19 +8,22 @@
 -- | `enabled part pel` | data for the array is taken (T12, T13) |
 -- | `partial part count` | a load of this many bytes spoils its sector (S7) |
 use Prim.Native.Nat.{ℕ}
-use mathlib.Core.Bool.{Bool, not, _&&_}
+use mathlib.Core.Bool.{Bool, not, _&&_, _||_}
 use lib.Dec.{eqb}
+use Rattle.parts.specs.Register.{hasRegister}
 
--- both parts have a register
+-- without a register FFFFh is an address as any other
 abbrev pub selects : ℕ → ℕ → Bool
-selects part address = eqb address 0xffff
+selects part address = eqb address 0xffff && hasRegister part
 
+-- the mark is not read,
 abbrev pub marked : ℕ → Bool → Bool
-marked part mark = mark
+marked part mark = mark && hasRegister part
 
+-- and neither is PEL
 abbrev pub enabled : ℕ → Bool → Bool
-enabled part pel = pel
+enabled part pel = pel || not (hasRegister part)
 
--- the X24F128 takes whole sectors alone
+-- the X24128 takes a load of any length, the others whole sectors alone
 abbrev pub partial : ℕ → ℕ → Bool
-partial part count = eqb part 1 && not (eqb count 32)
+partial part count = not (eqb count 32) && not (eqb part 0)

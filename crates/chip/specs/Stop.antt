@@ -49,7 +49,7 @@ rightly (Sending bit byte) = false
 rightly Waiting = false
 rightly Next = false
 
--- S8, S7, S9, in this order: 1. the sector is locked: note 4; 2. a partial load on an X24F128 (reading: any 32 bytes are whole, wherever in the sector they began); 3. any other
+-- S8, S7, S9, in this order: 1. the sector is locked: note 4; 2. a partial load, which is none on an X24128 (reading: any 32 bytes are whole, wherever in the sector they began); 3. any other
 unfoldable pub arrayEffect : Chip → Bool → Effect
 arrayEffect c pin =
     cond (locked (c .part) (c .register .bl) pin (sectorStart (c .counter))) (Nothing 4)

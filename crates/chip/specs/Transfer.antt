@@ -57,14 +57,14 @@ addressed select byte = eqb (byte / 16) 0b1010 && eqb (byte / 2 % 8) select
 unfoldable pub slaveTaken : Chip → ℕ → Chip
 slaveTaken c byte = atPhase c (cond (addressed (c .select) byte) (cond (eqb (byte % 2) 0) AckWrite AckRead) Standby)
 
--- T10, T11: FFFFh marks the register and leaves the counter (reading); any other address is cut to 14 bits (house) and clears the mark
+-- T10, T11: the register's address marks the register and leaves the counter (reading); any other address is cut to 14 bits (house) and clears the mark
 unfoldable pub addressTaken : Chip → ℕ → Chip
 addressTaken c address =
     cond (selects (c .part) address)
     (withTransfer c AckByte (c .counter) true (c .load))
     (withTransfer c AckByte (address % 0x4000) false (c .load))
 
--- T12-T14: refused while PEL is clear, any load left as it is (reading); else it joins the load and the counter goes on within its sector
+-- T12-T14: refused where PEL is asked and clear, any load left as it is (reading); else it joins the load and the counter goes on within its sector
 unfoldable pub arrayData : Chip → ℕ → Moved
 arrayData c byte =
     quiet

@@ -9,7 +9,7 @@
 -- | `mute` | a note that says nothing of a write: 0, 4, 7 |
 -- | `writes` | a note that says that a cycle of the array has begun: 1, 5 |
 -- | `isLocks` | PPEN and BL wait |
--- | `openTo` | a sector that waits is not locked |
+-- | `openTo` | a sector that waits is not locked with the pin at this level |
 -- | `Stopped` | an idle chip that sees a rightly placed STOP with a load |
 -- | `Writable` | the sector of the counter is the array's and not locked |
 -- | `Cycled` | a cycle that begins with a load for this sector |
@@ -18,7 +18,8 @@
 -- | `Untouched` | the register, the busy flag, what waits and the array as they were |
 -- | `Told` | what each note says |
 -- | `SameMake` | part, select and spoil byte are as before |
--- | `Sound` | busy exactly where something waits, and no waiting sector is locked |
+-- | `Sound` | busy exactly where something waits, and no waiting sector is locked whatever the pin |
+-- | `PinGuards` | PPEN is set, where there is a register to hold it |
 -- | `Guarded`, `GuardedBy` | part, select, PPEN, BL and the locked bytes are as before, and nothing waits that would change them |
 -- | `Touched` | what is known of a byte that an event changed |
 -- | `SeesStart` | a chip that has just seen a START |
@@ -32,7 +33,7 @@ use lib.ListN.{getD}
 use Rattle.parts.specs.Load.{noLoad, fullOf}
 use Rattle.parts.specs.Locks.{locked}
 use Rattle.parts.specs.Phase.{phasePulls}
-use Rattle.parts.specs.Register.{written, withPel, withRpel}
+use Rattle.parts.specs.Register.{hasRegister, written, withPel, withRpel}
 use Rattle.parts.specs.Rows.{every}
 use Rattle.parts.specs.Sector.{sectorStart}
 use Rattle.parts.specs.Wait.{noWait, chosen, everyPlace, noPlace, waitFor, waits}
@@ -108,11 +109,11 @@ isLocks None = false
 isLocks (Sector k) = false
 isLocks (Locks ppen bl) = true
 
--- S8: by the BL in force; with the pin high, as it is where locks are relied on
-unfoldable pub openTo : ℕ → ℕ → Target → Bool
-openTo part bl None = true
-openTo part bl (Sector k) = not (locked part bl true (k * 32))
-openTo part bl (Locks ppen bl′) = true
+-- S8: by the BL in force and a level of the pin
+unfoldable pub openTo : ℕ → ℕ → Bool → Target → Bool
+openTo part bl pin None = true
+openTo part bl pin (Sector k) = not (locked part bl pin (k * 32))
+openTo part bl pin (Locks ppen bl′) = true
 
 -- where alone a cycle can begin
 pub record Stopped (e : Event) (c : Chip) : Type 0 where
@@ -220,22 +221,26 @@ pub record Told (e : Event) (c : Chip) (xs : List ℕ) (after : Register) (busy 
 abbrev pub SameMake : Chip → Chip → Type 0
 SameMake before after = (after .part ≡ before .part) × (after .select ≡ before .select) × (after .spoil ≡ before .spoil)
 
--- C16, U9: on every run from power-up
+-- C16, U9: on every run from power-up; a sector that the pin alone locks can wait in a cycle that began with the pin low
 pub record Sound (part bl : ℕ) (busy : Bool) (target : Target) : Type 0 where
   pub cycle : busy ≡ waits target
-  pub unlocked : openTo part bl target ≡ true
+  pub unlocked : openTo part bl false target ≡ true
 
 -- of a chip
 abbrev pub SoundChip : Chip → Type 0
 SoundChip c = Sound (c .part) (c .register .bl) (c .busy) (c .wait .target)
 
--- What a row of events with the pin high leaves of a chip with PPEN set: part, select, PPEN, BL and every locked byte; and what then waits changes none of them
+-- S15: then no register byte is written while the pin is high
+abbrev pub PinGuards : Chip → Type 0
+PinGuards c = hasRegister (c .part) ≡ true → c .register .ppen ≡ true
+
+-- What a row of events with the pin high leaves of a chip that the pin guards: part, select, PPEN, BL and every locked byte; and what then waits changes none of them
 pub record Guarded (before : World) (part′ select′ : ℕ) (after : Register) (busy : Bool) (target : Target) (ys : List ℕ) : Type 0 where
   pub part : part′ ≡ before .chip .part
   pub select : select′ ≡ before .chip .select
-  pub ppen : after .ppen ≡ true
+  pub ppen : after .ppen ≡ before .chip .register .ppen
   pub bl : after .bl ≡ before .chip .register .bl
-  pub unlocked : busy ≡ true → openTo (before .chip .part) (before .chip .register .bl) target ≡ true
+  pub unlocked : busy ≡ true → openTo (before .chip .part) (before .chip .register .bl) true target ≡ true
   pub unmarked : busy ≡ true → isLocks target ≡ false
   pub bytes : (a : ℕ) → locked (before .chip .part) (before .chip .register .bl) true a ≡ true → getD ys a 0 ≡ getD (before .array) a 0
 

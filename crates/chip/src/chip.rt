@@ -7,10 +7,11 @@ use parts::load::Load;
 use parts::phase::Phase;
 use parts::register::Register;
 use parts::register::Written;
+use parts::register::has_register;
 use parts::wait::Wait;
 
 pub struct Chip {
-    // Chip::X24128 or Chip::X24F128
+    // Chip::X24128, Chip::X24F128 or Chip::X24F129
     pub part: u8,
     // 0-7
     pub select: u8,
@@ -62,6 +63,9 @@ impl Chip {
 
     // the part that takes 32 bytes; any other number of them spoils the sector
     pub const X24F128: u8 = 1;
+
+    // the part that has no register, and locks by the pin; else as the X24F128
+    pub const X24F129: u8 = 2;
 
     // bytes of the array
     pub const BYTES: usize = 0x4000;
@@ -119,11 +123,11 @@ impl Chip {
         }
     }
 
-    // A new chip: refusal 3, with the standard chip, for a part above 1 or a select above 7.
+    // A new chip: refusal 3, with the standard chip, for a part above 2 or a select above 7.
     pub fn new(part: u8, select: u8) -> Made
         ensures { λ r. ⌜ r ≡ made part select ⌝ }
     {
-        if (part <= 1) & (select <= 7) {
+        if (part <= 2) & (select <= 7) {
             return Made {
                 refusal: 0,
                 chip: Chip::at_power_up(part, select, false, 0, Chip::SPOIL),
@@ -152,7 +156,7 @@ impl Chip {
         let target = wait.target;
         let fit = phase.fits();
         let held = target.fits();
-        (self.part <= 1)
+        (self.part <= 2)
             & (self.select <= 7)
             & (self.register.bl <= 3)
             & (self.counter <= 0x3fff)
@@ -174,14 +178,16 @@ impl Chip {
     pub(crate) fn marked(self) -> bool
         ensures { λ r. ⌜ r ≡ marked (self .part) (self .mark) ⌝ }
     {
-        self.mark
+        let has = has_register(self.part);
+        self.mark & has
     }
 
     // Whether data for the array is taken.
     pub(crate) fn enabled(self) -> bool
         ensures { λ r. ⌜ r ≡ enabled (self .part) (self .register .pel) ⌝ }
     {
-        self.register.pel
+        let has = has_register(self.part);
+        self.register.pel | !has
     }
 
     // Note 7 where a load is dropped, else 0.

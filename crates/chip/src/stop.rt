@@ -44,7 +44,7 @@ impl Chip {
         ensures { λ r. ⌜ r ≡ partial (self .part) (self .load .count) ⌝ }
     {
         let load = self.load;
-        (self.part == 1) & !(load.count == 32)
+        !(load.count == 32) & !(self.part == 0)
     }
 
     // What an array load does at a rightly placed stop.

@@ -7,6 +7,7 @@ use crate::chip::Chip;
 use crate::chip::Moved;
 use crate::chip::quietly;
 use parts::phase::Phase;
+use parts::register::has_register;
 use parts::sector::next_address;
 use parts::sector::next_place;
 
@@ -49,7 +50,8 @@ impl Chip {
         ensures { λ r. ⌜ r ≡ addressTaken self (high * 256 + low) ⌝ }
     {
         let address = high as u16 * 256 + low as u16;
-        if address == 0xffff {
+        let has = has_register(self.part);
+        if (address == 0xffff) & has {
             return Chip {
                 phase: Phase::AckByte,
                 mark: true,

@@ -9,7 +9,7 @@ use mathlib.Core.List.{List}
 use Rattle.sender.specs.Sending.{sentOf, sentBuffer}
 
 -- K9: a refusal leaves the trace and reports 0 events
-pub record SendSays (select gate : ℕ) (bytes old : List ℕ) (r : ℕ) (told : List ℕ) (events : ℕ) : Type 0 where
-  pub returned : r ≡ sentOf gate bytes select old .refusal
-  pub trace : told ≡ sentBuffer gate bytes select old
-  pub counted : events ≡ sentOf gate bytes select old .count
+pub record SendSays (part select gate : ℕ) (bytes old : List ℕ) (r : ℕ) (told : List ℕ) (events : ℕ) : Type 0 where
+  pub returned : r ≡ sentOf part select gate bytes old .refusal
+  pub trace : told ≡ sentBuffer part select gate bytes old
+  pub counted : events ≡ sentOf part select gate bytes old .count

@@ -2,12 +2,13 @@
 use Prim.Native.Nat.{ℕ, _+_, _*_, _/_, _%_, _≤_, _<_}
 use mathlib.Core.Bool.{Bool, true, false, cond, not}
 use mathlib.Core.List.{List, [], _∷_, _++_}
-use mathlib.Core.Path.{_≡_, refl, sym, subst}
+use mathlib.Core.Path.{_≡_, refl, sym, ap, subst}
 use native.Mathlib.Omega.{arith}
 use borrow.Author.Tests.{eq-eqb, ne-eqb, eqb-true}
 use lib.Dec.{eqb}
 use Rattle.parts.specs.Load.{noLoad, loaded}
 use Rattle.parts.specs.Phase.{weight, bitOf, risen, phasePulls}
+use Rattle.parts.specs.Register.{hasRegister}
 use Rattle.parts.specs.Sector.{nextPlace}
 use Rattle.parts.specs.declared.load.Load.{Load}
 use Rattle.parts.specs.declared.phase.Phase.{Phase}
@@ -15,13 +16,14 @@ use Rattle.parts.specs.declared.phase.Phase.the-variants.{Standby, Slave, First
 use Rattle.parts.proofs.RowLaws.{below, each}
 use Rattle.parts.specs.Rows.{stepped}
 use Rattle.chip.specs.Chip.{pulls, withTransfer}
-use Rattle.chip.specs.Event.{next, nextArray, sampled, judged, reacted}
+use Rattle.chip.specs.Event.{next, nextArray, settled, sampled, judged, reacted}
 use Rattle.chip.specs.Part.{enabled}
 use Rattle.chip.specs.Run.{World, world, step, noteOf, lines, notes}
 use Rattle.chip.specs.Stop.{rightly, stopEffect, effectMoved}
-use Rattle.chip.specs.Transfer.{fallIn, slaveTaken, addressTaken, arrayData, registerData}
-use Rattle.chip.specs.Wire.{edgeOf}
+use Rattle.chip.specs.Transfer.{quiet, fallIn, slaveTaken, addressTaken, arrayData, registerData}
+use Rattle.chip.specs.Wire.{lineOf, edgeOf, sample}
 use Rattle.chip.specs.declared.chip.Chip.{Chip}
+use Rattle.chip.specs.declared.chip.Moved.{Moved}
 use Rattle.chip.proofs.Posed.{posed}
 use Rattle.messages.specs.Messages.{begin, byteSent, slaveByte}
 use Rattle.messages.specs.RandomRead.{restart}
@@ -125,23 +127,37 @@ module _ (c : Chip) (xs : List ℕ) where
   unfolding stepped lines notes noteOf silent step next nextArray sampled judged reacted edgeOf pulls phasePulls risen fallIn addressTaken pinned
   second-acked counter mark load line high got p = record { plays = λ pins. record { ends = rw p; hears = rw p; tells = rw p } }
 
-  -- FFFFh sets it and leaves the counter
-  register-acked : (counter : ℕ) (mark : Bool) (load : Load) (line : Bool)
+  -- FFFFh sets it and leaves the counter where there is a register
+  register-acked : (counter : ℕ) (mark : Bool) (load : Load) (line : Bool) → hasRegister (c .part) ≡ true
       → Says (idle c xs counter mark load line (Second 255 8 255)) (clock true) (false ∷ false ∷ []) (idle c xs counter true load false AckByte)
   unfolding stepped lines notes noteOf silent step next nextArray sampled judged reacted edgeOf pulls phasePulls risen fallIn addressTaken pinned
-  register-acked counter mark load line = record { plays = λ pins. record { ends = refl; hears = refl; tells = refl } }
+  register-acked counter mark load line has = record { plays = λ pins. record { ends = rw has; hears = rw has; tells = rw has } }
 
-  -- a data byte for the array joins the load where PEL is set
+  -- a data byte for the array joins the load where PEL is set or not asked
   data-acked : (counter : ℕ) (load : Load) (line : Bool) (got : ℕ) → enabled (c .part) (c .register .pel) ≡ true
       → Says (idle c xs counter false load line (Data 8 got)) (clock true) (false ∷ false ∷ []) (idle c xs (nextPlace counter) false (loaded load counter got) false AckByte)
   unfolding stepped lines notes noteOf silent step next nextArray sampled judged reacted edgeOf pulls phasePulls risen fallIn arrayData pinned
   data-acked counter load line got p = record { plays = λ pins. record { ends = rw p; hears = rw p; tells = rw p } }
 
   -- the first one for the register is kept at place 0
-  byte-acked : (counter : ℕ) (line : Bool) (got : ℕ)
+  byte-taken : (counter : ℕ) (line : Bool) (got : ℕ) → hasRegister (c .part) ≡ true
+      → let d : Chip = idle c xs counter true noLoad line (Data 8 got) .chip in fallIn (Data 8 got) d xs ≡ quiet (withTransfer d AckByte counter true (loaded noLoad 0 got))
+  unfolding fallIn registerData
+  byte-taken counter line got has = rw has
+
+  byte-acked : (counter : ℕ) (line : Bool) (got : ℕ) → hasRegister (c .part) ≡ true
       → Says (idle c xs counter true noLoad line (Data 8 got)) (clock true) (false ∷ false ∷ []) (idle c xs counter true (loaded noLoad 0 got) false AckByte)
-  unfolding stepped lines notes noteOf silent step next nextArray sampled judged reacted edgeOf pulls phasePulls risen fallIn registerData pinned
-  byte-acked counter line got = record { plays = λ pins. record { ends = refl; hears = refl; tells = refl } }
+  unfolding stepped lines notes noteOf silent step next nextArray sampled judged reacted edgeOf pulls phasePulls risen pinned
+  byte-acked counter line got has =
+      let e = byte-taken counter line got has in
+      record {
+        plays = λ pins.
+            record {
+              ends = rw e;
+              hears = rw e;
+              tells = ap (λ (m : Moved). m .note ∷ noteOf (sample true true (pins 1)) (world (settled m false (lineOf (pulls (m .chip)) true) .chip) xs) ∷ []) e;
+            };
+      }
 
   -- 2, 3, 1 ends the acknowledge and makes a START, which drops no load
   pub restarted : (counter : ℕ) (mark : Bool)
@@ -190,18 +206,18 @@ module _ (c : Chip) (xs : List ℕ) where
       (ne-eqb (address / 256 * 256 + address % 256) 0xffff (omega arith))))
 
   -- FFFFh's low byte: the register is selected
-  pub register-sent : (counter : ℕ) (mark : Bool) (load : Load)
+  pub register-sent : (counter : ℕ) (mark : Bool) (load : Load) → hasRegister (c .part) ≡ true
       → Says (idle c xs counter mark load false (AckFirst 255)) (byteSent 255) (heardSent 255) (idle c xs counter true load false AckByte)
   unfolding byteSent heardSent
-  register-sent counter mark load = then (bits-sent (second 255) counter mark load 255 (omega arith)) (register-acked counter mark load (bitOf 255 0))
+  register-sent counter mark load has = then (bits-sent (second 255) counter mark load 255 (omega arith)) (register-acked counter mark load (bitOf 255 0) has)
 
   -- a data byte for the register
-  pub byte-sent : (counter : ℕ) (byte : ℕ) → byte < 256
+  pub byte-sent : (counter : ℕ) (byte : ℕ) → hasRegister (c .part) ≡ true → byte < 256
       → Says (idle c xs counter true noLoad false AckByte) (byteSent byte) (heardSent byte) (idle c xs counter true (loaded noLoad 0 byte) false AckByte)
   unfolding byteSent heardSent
-  byte-sent counter byte h = then (bits-sent more counter true noLoad byte h) (byte-acked counter (bitOf byte 0) byte)
+  byte-sent counter byte has h = then (bits-sent more counter true noLoad byte h) (byte-acked counter (bitOf byte 0) byte has)
 
-  -- a data byte for the array, with PEL set
+  -- a data byte for the array, with PEL set or not asked
   pub data-sent : (counter : ℕ) (load : Load) (byte : ℕ) → enabled (c .part) (c .register .pel) ≡ true → byte < 256
       → Says (idle c xs counter false load false AckByte) (byteSent byte) (heardSent byte) (idle c xs (nextPlace counter) false (loaded load counter byte) false AckByte)
   unfolding byteSent heardSent

@@ -1,18 +1,17 @@
 -- Messages that write, from a chip that rests to one that rests again: 02h to the register sets PEL, and 32 bytes at a sector's start wait at the
 -- STOP and are stored there at the end of the cycle, or not where it is locked. Every byte is acknowledged, and the STOP alone has a note. Assumes nothing.
 use Prim.Native.Nat.{ℕ, zero, suc, _+_, _*_, _/_, _≤_, _<_}
-use mathlib.Core.Bool.{Bool, true, false, cond, not, and-false}
+use mathlib.Core.Bool.{Bool, true, false, cond, not}
 use mathlib.Core.List.{List, [], _∷_, _++_}
 use mathlib.Core.Path.{_≡_, refl, ap, _∙_}
 use native.Mathlib.Nat.{add-assoc}
 use native.Mathlib.Omega.{arith}
-use lib.Dec.{eqb}
 use lib.ListN.{length, getD, replicate}
 use lib.Seq.{getD-append-add}
 use Rattle.parts.specs.Load.{noLoad, whole, loaded}
 use Rattle.parts.specs.Locks.{locked}
 use Rattle.parts.specs.Phase.{risen, phasePulls}
-use Rattle.parts.specs.Register.{withPel, withRpel, written, writtenAs, latchWritten}
+use Rattle.parts.specs.Register.{hasRegister, withPel, withRpel, written, writtenAs, latchWritten}
 use Rattle.parts.specs.Rows.{stepped}
 use Rattle.parts.specs.Sector.{sectorStart, nextPlace, Bytes}
 use Rattle.parts.specs.Wait.{noWait, chosen, everyPlace, taking, storedTo, stored, waitFor, waits, reached, endArray, locksTaken}
@@ -81,25 +80,25 @@ module _ (c : Chip) (xs : List ℕ) where
   abbrev said : ℕ → Bool → Load → Effect → List ℕ
   said counter mark load effect = 0 ∷ 0 ∷ effectMoved effect (stopping counter mark load) .note ∷ []
 
-  -- 02h sets PEL, where RPEL is clear
-  pel-effect : (counter : ℕ) (pin : Bool) → c .register .rpel ≡ false
+  -- 02h sets PEL, where there is a register with RPEL clear
+  pel-effect : (counter : ℕ) (pin : Bool) → hasRegister (c .part) ≡ true → c .register .rpel ≡ false
       → stopEffect (stopping counter true (loaded noLoad 0 0x02)) pin ≡ Change (writtenAs (withPel (c .register) true) None 3)
   unfolding stopEffect rightEffect rightly written latchWritten loaded
-  pel-effect counter pin off = rw off
+  pel-effect counter pin has off = rw (has, off)
 
   -- a whole load is stored, unless its sector is locked
   whole-effect : (counter : ℕ) (bytes : List ℕ) (pin shut : Bool) → locked (c .part) (c .register .bl) pin (sectorStart counter) ≡ shut
       → stopEffect (stopping counter false (whole bytes)) pin ≡ cond shut (Nothing 4) Store
   unfolding stopEffect rightEffect rightly arrayEffect
-  whole-effect counter bytes pin shut e = rw (e, and-false (eqb (c .part) 1))
+  whole-effect counter bytes pin shut e = rw e
 
   -- the STOP after 02h
-  pel-stopped : (counter : ℕ) (pin : Bool) → c .register .rpel ≡ false
+  pel-stopped : (counter : ℕ) (pin : Bool) → hasRegister (c .part) ≡ true → c .register .rpel ≡ false
       → Plays (idle c xs counter true (loaded noLoad 0 0x02) false AckByte) (pinned (λ k. pin) end) (false ∷ false ∷ true ∷ []) (0 ∷ 0 ∷ 3 ∷ [])
       (resting (withCycle c (withPel (c .register) true) false (c .wait)) xs 0x0000 false true true)
   unfolding stepped lines notes noteOf step next nextArray sampled judged reacted edgeOf pulls phasePulls risen fallIn pinned effectMoved waits
-  pel-stopped counter pin off =
-      let e = pel-effect counter pin off in
+  pel-stopped counter pin has off =
+      let e = pel-effect counter pin has off in
       record { ends = rw e; hears = rw e; tells = ap (said counter true (loaded noLoad 0 0x02)) e }
 
   -- the STOP after a whole load: no byte is written yet
@@ -115,7 +114,7 @@ module _ (c : Chip) (xs : List ℕ) where
       let here : sector * 32 / 32 ≡ sector = omega arith in
       record { ends = rw (f, here); hears = rw f; tells = ap (said (sector * 32) false (whole bytes)) f }
 
-  -- a row of data bytes for the array, with PEL set
+  -- a row of data bytes for the array, with PEL set or not asked
   row-sent : (bytes : List ℕ) (counter : ℕ) (load : Load) → enabled (c .part) (c .register .pel) ≡ true → Bytes bytes
       → Says (idle c xs counter false load false AckByte) (bytesSent bytes) (heardRow bytes) (idle c xs (placeAfter counter bytes) false (loadedRow load counter bytes) false AckByte)
   unfolding stepped lines notes silent pinned heardRow placeAfter loadedRow
@@ -124,22 +123,22 @@ module _ (c : Chip) (xs : List ℕ) where
       then (data-sent c xs counter load byte on (h 0)) (row-sent rest (nextPlace counter) (loaded load counter byte) on (λ k. h (suc k)))
 
   -- a message that sets PEL, at the chip's own select
-  pub pel-message : (counter : ℕ) (mark scl line pin : Bool) → c .select ≤ 7 → c .register .rpel ≡ false
+  pub pel-message : (counter : ℕ) (mark scl line pin : Bool) → hasRegister (c .part) ≡ true → c .select ≤ 7 → c .register .rpel ≡ false
       → let row : List ℕ = messageBytes (c .select) 0xffff (0x02 ∷ []) in
       Plays (resting c xs counter mark scl line) (pinned (λ k. pin) (registerWrite (c .select) 0x02)) (heardMessage row) (toldMessage row 3)
       (resting (withCycle c (withPel (c .register) true) false (c .wait)) xs 0x0000 false true true)
   unfolding heardRow heardSent twice byteSent clocks
-  pel-message counter mark scl line pin h off =
+  pel-message counter mark scl line pin has h off =
       rw (steady-on (begin ++ bytesSent (messageBytes (c .select) 0xffff (0x02 ∷ []))) end pin)
       (plays-then
       (then (begun c xs counter mark scl line)
       (then (slave-sent c xs false counter mark noLoad h)
       (then (first-sent c xs counter mark noLoad 255 (omega arith))
-      (then (register-sent c xs counter mark noLoad)
-      (byte-sent c xs counter 0x02 (omega arith))))) .plays (λ k. pin))
-      (pel-stopped counter pin off))
+      (then (register-sent c xs counter mark noLoad has)
+      (byte-sent c xs counter 0x02 has (omega arith))))) .plays (λ k. pin))
+      (pel-stopped counter pin has off))
 
-  -- a message that writes 32 bytes at the start of a sector, with PEL set: they wait
+  -- a message that writes 32 bytes at the start of a sector, with PEL set or not asked: they wait
   pub sector-message : (counter : ℕ) (mark scl line pin shut : Bool) (sector : ℕ) (bytes : List ℕ) → c .select ≤ 7 → enabled (c .part) (c .register .pel) ≡ true
       → sector ≤ 511 → length bytes ≡ 32 → Bytes bytes → locked (c .part) (c .register .bl) pin (sector * 32) ≡ shut
       → let row : List ℕ = messageBytes (c .select) (sector * 32) bytes in

@@ -1,8 +1,8 @@
--- What is known of the first locked address without its table: where it lies past the table, what holds of each entry holds of it, and
--- that a sector is locked whole. Assumes nothing.
+-- What is known of the first locked address without its table: where it lies past the table, and what holds of each entry holds of it. Of all
+-- that is locked: a sector is locked whole, and the pin low locks nothing that the pin high does not. Assumes nothing.
 use Prim.Native.Nat.{ℕ, zero, suc, _%_, _<_, _≤_}
-use mathlib.Core.Bool.{Bool, true, false}
-use mathlib.Core.Path.{_≡_, refl, sym}
+use mathlib.Core.Bool.{Bool, true, false, cond, _&&_}
+use mathlib.Core.Path.{_≡_, refl, sym, ap₂}
 use mathlib.Core.List.{List, [], _∷_}
 use native.Mathlib.Nat.{lt-of-not-le, not-le-of-lt}
 use native.Mathlib.Omega.{arith}
@@ -10,6 +10,7 @@ use borrow.Author.Tests.{leb-true, leb-false, le-leb, lt-leb}
 use lib.Dec.{leb}
 use lib.ListN.{length, getD, List·getD-eq-default}
 use Rattle.parts.specs.Locks.{firstLocked, lockTable, locked}
+use Rattle.parts.specs.Register.{hasRegister}
 use Rattle.parts.specs.Sector.{sectorStart}
 use Rattle.parts.proofs.SectorLaws.{start-again}
 
@@ -69,8 +70,21 @@ leb-same first a b there back = go (leb first a) refl
 pub locked-whole : (part bl : ℕ) (pin : Bool) (a b : ℕ) → sectorStart a ≡ sectorStart b → locked part bl pin a ≡ locked part bl pin b
 locked-whole part bl pin a b same =
     let start : firstLocked part bl % 32 ≡ 0 = first-starts part bl in
-    leb-same (firstLocked part bl) a b (omega arith) (omega arith)
+    ap₂ (λ (by-bl by-pin : Bool). cond (hasRegister part) by-bl (pin && by-pin))
+    (leb-same (firstLocked part bl) a b (omega arith) (omega arith)) (leb-same 0x3000 a b (omega arith) (omega arith))
 
 -- an address is locked where its sector's start is
 pub locked-from-start : (part bl : ℕ) (pin : Bool) (a : ℕ) → locked part bl pin (sectorStart a) ≡ locked part bl pin a
 locked-from-start part bl pin a = locked-whole part bl pin (sectorStart a) a (start-again a)
+
+-- what is open at a level of the pin is open with the pin low
+pub open-low : (part bl : ℕ) (pin : Bool) (a : ℕ) → locked part bl pin a ≡ false → locked part bl false a ≡ false
+open-low part bl pin a = go (hasRegister part)
+  where
+    go : (has : Bool) → cond has (leb (firstLocked part bl) a) (pin && leb 0x3000 a) ≡ false → cond has (leb (firstLocked part bl) a) false ≡ false
+    go true unlocked = unlocked
+    go false unlocked = refl
+
+-- where there is a register the pin is not asked
+pub locked-by-bl : (part bl : ℕ) (pin : Bool) (a : ℕ) → hasRegister part ≡ true → locked part bl pin a ≡ leb (firstLocked part bl) a
+locked-by-bl part bl pin a has = rw has

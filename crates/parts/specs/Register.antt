@@ -1,7 +1,8 @@
--- The register: the byte that it reads as, and the ordered rules for a byte written to it. (RULES T21, S13-S17.)
+-- The register: the byte that it reads as, and the ordered rules for a byte written to it. (RULES C1, T21, S13-S17.)
 --
 -- | Name | Meaning |
 -- |---|---|
+-- | `hasRegister part` | the part has a register |
 -- | `registerByte` | the byte that a read sends |
 -- | `writtenAs r target note` | the outcome of a write: the register after it, what waits then, the note |
 -- | `withPel`, `withRpel`, `withLocks` | the register with one bit set or cleared; with other PPEN and BL |
@@ -15,6 +16,10 @@ use Rattle.parts.specs.declared.register.Register.{Register}
 use Rattle.parts.specs.declared.register.Written.{Written}
 use Rattle.parts.specs.declared.wait.Target.{Target}
 use Rattle.parts.specs.declared.wait.Target.the-variants.{None, Locks}
+
+-- C1: the X24F129 has none, every other part has one
+abbrev pub hasRegister : ℕ → Bool
+hasRegister part = not (eqb part 2)
 
 -- T21: from bit 7 down PPEN, 0, 0, BL1, BL0, RPEL, PEL, 0
 abbrev pub registerByte : Register → ℕ

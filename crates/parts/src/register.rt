@@ -1,7 +1,7 @@
 // The register: its four bits, the byte that it reads as, and what a byte written to it does.
 ghost use mathlib.Core.Path.{_≡_};
 ghost use Rattle.parts.specs.declared.wait.Target.the-variants.{None};
-ghost use Rattle.parts.specs.Register.{registerByte, written, reserved, writtenAs, latchWritten, lockWritten};
+ghost use Rattle.parts.specs.Register.{hasRegister, registerByte, written, reserved, writtenAs, latchWritten, lockWritten};
 use crate::phase::bit_of;
 use crate::phase::weigh;
 use crate::wait::Target;
@@ -22,6 +22,13 @@ pub struct Written {
     pub register: Register,
     pub target: Target,
     pub note: u8,
+}
+
+// Whether the part has a register: all but the X24F129, part 2.
+pub fn has_register(part: u8) -> bool
+    ensures { λ r. ⌜ r ≡ hasRegister part ⌝ }
+{
+    part != 2
 }
 
 // Whether bit 0, 5 or 6 is set.

@@ -1,4 +1,5 @@
--- Demand 3: whatever noise comes with the protect pin high, a protected chip is freed by ten pulses and then reads back every locked byte.
+-- Demand 3, over the three parts: whatever noise comes with the protect pin high, a protected chip is freed by ten pulses and then reads back every
+-- locked byte.
 -- Assumes nothing.
 use Prim.Native.Nat.{ℕ, _+_, _%_, _≤_}
 use mathlib.Core.Bool.{Bool, true, false}

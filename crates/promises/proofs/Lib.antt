@@ -1,10 +1,12 @@
 pub mod Bench
 pub mod Cases
 pub mod Demand3
+pub mod Locked
 pub mod Map
 pub mod OneAnswer
 pub mod PowerCut
 pub mod Sender
 pub mod SenderRuns
 pub mod Spoil
+pub mod Unread
 pub mod Witness

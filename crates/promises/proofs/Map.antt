@@ -1,5 +1,5 @@
 -- A map that is built once and kept finds what reading every record finds; a sender run keeps it true; and a gate is added in the first free sector. Assumes nothing.
-use Prim.Native.Nat.{ℕ, _<_}
+use Prim.Native.Nat.{ℕ, _≤_, _<_}
 use mathlib.Core.Bool.{true, false, not, true≢false}
 use mathlib.Core.List.{List, map}
 use mathlib.Core.Path.{_≡_, refl, sym, ap, _∙_}
@@ -19,7 +19,7 @@ use Rattle.gate.specs.Reading.{readOf, isFree}
 use Rattle.gate.proofs.Witness.{north-taken}
 use Rattle.trace.specs.Bytes.{eventOf}
 use Rattle.trace.specs.Trace.{after}
-use Rattle.sender.specs.Sending.{sentEvents, sendRefusal}
+use Rattle.sender.specs.Sending.{eventCount, sentEvents, sendRefusal}
 use Rattle.sender.proofs.Sends.{Sendable, send-taken, written-sent}
 use Rattle.map.specs.Finding.{firstFrom, foundAt, firstFree, firstRead}
 use Rattle.map.specs.Keeping.{keptOver}
@@ -52,29 +52,29 @@ built-first calls xs m taken b =
     (kept, first-true _ _ (kept .map) (kept .whole))
 
 -- a record that can be sent is not free
-not-free : (bytes : List ℕ) (gate select room : ℕ) → Sendable gate bytes select room → isFree bytes ≡ false
-not-free bytes gate select room s = sym (read-free bytes (s .sized)) ∙ ap saysFree (s .good)
+not-free : (part select gate : ℕ) (bytes : List ℕ) (room : ℕ) → Sendable part select gate bytes room → isFree bytes ≡ false
+not-free part select gate bytes room s = sym (read-free bytes (s .sized)) ∙ ap saysFree (s .good)
 
 -- For every record that is not refused, every chip that the events are for, and a true map of its array
-module _ (gate : ℕ) (bytes : List ℕ) (select room : ℕ) (taken : sendRefusal gate bytes select room ≡ 0) (byte-wide : Bytes bytes) (w : World) (ready : Ready select w)
+module _ (part select gate : ℕ) (bytes : List ℕ) (room : ℕ) (taken : sendRefusal part select gate bytes room ≡ 0) (byte-wide : Bytes bytes) (w : World) (ready : Ready part select w)
     (m : List ℕ) (b : Beside (w .array) m) where
   abbrev left : List ℕ
-  left = after (sentEvents select gate bytes) w .array
+  left = after (sentEvents part select gate bytes) w .array
 
   abbrev map-left : List ℕ
-  map-left = keptOver (map eventOf (sentEvents select gate bytes)) w m
+  map-left = keptOver (map eventOf (sentEvents part select gate bytes)) w m
 
   -- A sender run keeps the map true
   pub sent-keeps : Beside left map-left
   unfolding after
-  sent-keeps = row-keeps (map eventOf (sentEvents select gate bytes)) w m b
+  sent-keeps = row-keeps (map eventOf (sentEvents part select gate bytes)) w m b
 
   -- Sent to the first free sector, where that is unlocked, it adds the gate
   pub sent-added : shutAt gate (w .chip) ≡ false → firstFree m ≡ Sector gate → Added gate bytes (w .array) m left map-left
   sent-added unlocked first = record { wrote = stands; kept = sent-keeps; own = own-bit; others = other-bits; later = λ k e. go k e (decLt gate k) }
     where
       stands : Wrote gate bytes (w .array) left
-      stands = sent-stored gate bytes select room taken byte-wide w ready unlocked .1
+      stands = sent-stored part select gate bytes room taken byte-wide w ready unlocked .1
 
       found : (gate < 512) × (bitAt gate m ≡ false) × ((k : ℕ) → k < gate → bitAt k m ≡ true)
       found = first-sector m gate first
@@ -83,7 +83,7 @@ module _ (gate : ℕ) (bytes : List ℕ) (select room : ℕ) (taken : sendRefusa
       own-bit =
           sent-keeps .map .bits gate (found .0)
           ∙ ap (λ (r : List ℕ). not (isFree r)) (stands .sector)
-          ∙ ap not (not-free bytes gate select room (send-taken gate bytes select room taken))
+          ∙ ap not (not-free part select gate bytes room (send-taken part select gate bytes room taken))
 
       other-bits : (k : ℕ) → k < 512 → (k ≡ gate → ⊥) → bitAt k map-left ≡ bitAt k m
       other-bits k h other =
@@ -123,16 +123,16 @@ empty-first = first-true erased firstMap (first-beside .map) (first-beside .whol
 
 -- what the record of worked case 4 leaves, sent as gate 0's to a chip of this part
 abbrev pub AddedOn : ℕ → Type 0
-AddedOn part = Added 0 northRecord erased firstMap (after (sentEvents 5 0 northRecord) (up part 0) .array) (keptOver (map eventOf (sentEvents 5 0 northRecord)) (up part 0) firstMap)
+AddedOn part = Added 0 northRecord erased firstMap (after (sentEvents part 5 0 northRecord) (up part 0) .array) (keptOver (map eventOf (sentEvents part 5 0 northRecord)) (up part 0) firstMap)
 
--- It speaks of something: that record is added there, on both parts
-pub north-added : AddedOn 0 × AddedOn 1
+-- It speaks of something: that record is added there, on each part
+pub north-added : AddedOn 0 × AddedOn 1 × AddedOn 2
 unfolding firstLocked
-north-added = (on 0 refl, on 1 refl)
+north-added = (on 0 (omega arith) refl, on 1 (omega arith) refl, on 2 (omega arith) refl)
   where
-    on : (part : ℕ) → shutAt 0 (up part 0 .chip) ≡ false → AddedOn part
-    on part unlocked =
-        sent-added 0 northRecord 5 713
-        (written-sent buffer (pos 0) (pos 1200) north north-taken 0 5 713 (omega arith) (omega arith) (omega arith)) north-bytes
+    on : (part : ℕ) → part ≤ 2 → shutAt 0 (up part 0 .chip) ≡ false → AddedOn part
+    on part part-in unlocked =
+        sent-added part 5 0 northRecord (eventCount part)
+        (written-sent buffer (pos 0) (pos 1200) north north-taken part 5 0 (eventCount part) part-in (omega arith) (omega arith) (omega arith)) north-bytes
         (up part 0) (up-ready part 5 true 0 0x00 erased (first-beside .whole))
         firstMap first-beside unlocked empty-first

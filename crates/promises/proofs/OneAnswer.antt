@@ -11,7 +11,7 @@ use lib.ListN.{length, drop}
 use Rattle.parts.specs.Load.{noLoad, fullOf, loaded}
 use Rattle.parts.specs.Locks.{locked}
 use Rattle.parts.specs.Phase.{weight, received, bitOf, phaseFits, phasePulls, risen}
-use Rattle.parts.specs.Register.{registerByte, written}
+use Rattle.parts.specs.Register.{hasRegister, registerByte, written}
 use Rattle.parts.specs.Sector.{sectorStart, nextPlace, nextAddress}
 use Rattle.parts.specs.Wait.{alone as by-itself, noWait, waitFor, targetFits, waits, endArray, locksTaken}
 use Rattle.parts.proofs.register
@@ -123,6 +123,10 @@ operations =
     -- Register::written
     ∷ one (whole 0 register.Register.written.Kinds.ps register.Register.written.Kinds.r register.Register.written.Reads.Post)
     (λ κs (self, (byte, (pin, end))). (written self byte pin, (tt, (tt, (tt, tt)))))
+    (λ κs input r left. alone)
+    -- parts::register::has_register
+    ∷ one (whole 0 register.has_register.Kinds.ps register.has_register.Kinds.r register.has_register.Reads.Post)
+    (λ κs (part, end). (hasRegister part, (tt, tt)))
     (λ κs input r left. alone)
     -- parts::locks::is_locked
     ∷ one (whole 0 locks.is_locked.Kinds.ps locks.is_locked.Kinds.r locks.is_locked.Reads.Post)
@@ -282,8 +286,8 @@ operations =
     (λ κs input r left. alone)
     -- sender::send
     ∷ one (whole 2 sender.send.Kinds.ps sender.send.Kinds.r sender.send.Reads.Post)
-    (λ κs (number, (bytes, (select, (events, end)))). (sentOf number (now bytes) select (now events), (tt, (tt, (tt, (sentBuffer number (now bytes) select (now events), tt))))))
-    (λ κs input r left p i. (p .0 i, (tt, (tt, (tt, (p .1 i, tt))))))
+    (λ κs (part, (select, (number, (bytes, (events, end))))). (sentOf part select number (now bytes) (now events), (tt, (tt, (tt, (tt, (sentBuffer part select number (now bytes) (now events), tt)))))))
+    (λ κs input r left p i. (p .0 i, (tt, (tt, (tt, (tt, (p .1 i, tt)))))))
     -- report::write_report
     ∷ one (whole 2 report.write_report.Kinds.ps report.write_report.Kinds.r report.write_report.Reads.Post)
     (λ κs (chip, (bytes, (page, end))). (length (reportOf chip (now bytes)), (tt, (tt, (reportOf chip (now bytes) ++ drop (length (reportOf chip (now bytes))) (now page), tt)))))
@@ -333,7 +337,7 @@ operations =
     (λ κs input r r′ left left′ p q i. (both (p .returned) (q .returned) i, (tt, (tt, (both (p .first) (q .first) i, (both (p .counted) (q .counted) i, (both (p .within) (q .within) i, tt)))))))
     -- crep_send
     ∷ by-parts (whole 3 crepulanter.crep_send.Kinds.ps crepulanter.crep_send.Kinds.r crepulanter.crep_send.Reads.Post)
-    (λ κs input r r′ left left′ p q i. (both (p .returned) (q .returned) i, (tt, (tt, (tt, (both (p .trace) (q .trace) i, (both (p .counted) (q .counted) i, tt)))))))
+    (λ κs input r r′ left left′ p q i. (both (p .returned) (q .returned) i, (tt, (tt, (tt, (tt, (both (p .trace) (q .trace) i, (both (p .counted) (q .counted) i, tt))))))))
     -- crep_map_build
     ∷ by-parts (whole 2 crepulanter.crep_map_build.Kinds.ps crepulanter.crep_map_build.Kinds.r crepulanter.crep_map_build.Reads.Post)
     (λ κs input r r′ left left′ p q i. (both (p .0) (q .0) i, (tt, (both (p .1) (q .1) i, tt))))

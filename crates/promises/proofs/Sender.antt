@@ -1,4 +1,4 @@
--- The sender's events on a chip that they are for: an unlocked sector then holds the record and every other byte is kept, a locked one stays; every
+-- The sender's events on a chip that they are for, of each part: an unlocked sector then holds the record and every other byte is kept, a locked one stays; every
 -- byte is acknowledged, and reading the sector gives back what the record says. Cut off before its end, each byte of the sector is old or new, and every other byte is
 -- kept. Assumes nothing.
 use Prim.Native.Nat.{ℕ, zero, suc, _+_, _*_, _≤_, _<_}
@@ -9,7 +9,7 @@ use native.Mathlib.Omega.{arith}
 use lib.ListN.{length, getD, take, drop, replicate, length-append, length-map, take-append-drop}
 use lib.Seq.{ext-getD, take-append-le}
 use Rattle.parts.specs.Load.{noLoad, whole}
-use Rattle.parts.specs.Register.{withPel, withRpel}
+use Rattle.parts.specs.Register.{hasRegister, withPel, withRpel}
 use Rattle.parts.specs.Rows.{every}
 use Rattle.parts.specs.Sector.{sectorOf, Bytes}
 use Rattle.parts.specs.Wait.{noWait, everyPlace, chosen, stored, waitFor, endArray}
@@ -29,6 +29,7 @@ use Rattle.chip.specs.declared.wire.Event.{Event}
 use Rattle.chip.specs.declared.wire.Event.the-variants.{Sample, ProgramDone, PowerUp}
 use Rattle.chip.proofs.CutLaws.{cut-busy, cut-idle}
 use Rattle.chip.proofs.EventLaws.{taken-so, sample-array}
+use Rattle.chip.proofs.PartLaws.{always-enabled, pin-low}
 use Rattle.chip.proofs.Posed.{posed}
 use Rattle.gate.specs.Reading.{readOf}
 use Rattle.trace.specs.Bytes.{eventOf, allEvents, answerLine}
@@ -46,8 +47,8 @@ use Rattle.messages.proofs.Sending.{heardSent, twice, resting}
 use Rattle.messages.proofs.Spelling.{played-pinned, bytes-length}
 use Rattle.messages.proofs.Telling.{pinned, silent, silent-all, steady-on, Plays, plays-then}
 use Rattle.messages.proofs.Writing.{heardRow, heardMessage, toldMessage, chipThen, chipDone, arrayThen, pel-message, sector-message, sector-done, whole-ends, row-acked}
-use Rattle.sender.specs.Sending.{sentEvents, sendRefusal}
-use Rattle.sender.proofs.Sends.{Sendable, send-taken, sent-length, sent-events}
+use Rattle.sender.specs.Sending.{pelMessage, lead, eventCount, sentEvents, sendRefusal}
+use Rattle.sender.proofs.Sends.{Sendable, send-taken, lead-count, lead-most, sent-length, sent-events}
 use Rattle.promises.specs.Sender.{Ready, shutAt, ended, notesWith, Ends, Wrote, cutAfter, OldOrNew, Cut, readBack}
 use Rattle.promises.specs.Sender.OldOrNew.{kept, taken}
 
@@ -58,86 +59,125 @@ pelRow select = messageBytes select 0xffff (0x02 ∷ [])
 abbrev recordRow : ℕ → ℕ → List ℕ → List ℕ
 recordRow select gate bytes = messageBytes select (gate * 32) bytes
 
--- what is heard of the events, and their notes
-abbrev heardAll : ℕ → ℕ → List ℕ → List Bool
-heardAll select gate bytes = heardMessage (pelRow select) ++ heardMessage (recordRow select gate bytes) ++ (true ∷ [])
+-- what is heard of the message that sets PEL, where it is sent, and its notes
+abbrev heardLead : Bool → ℕ → List Bool
+heardLead has select = cond has (heardMessage (pelRow select)) []
 
-abbrev toldAll : ℕ → ℕ → List ℕ → ℕ → List ℕ
-toldAll select gate bytes note = toldMessage (pelRow select) 3 ++ toldMessage (recordRow select gate bytes) note ++ (0 ∷ [])
+abbrev toldLead : Bool → ℕ → List ℕ
+toldLead has select = cond has (toldMessage (pelRow select) 3) []
+
+-- what is heard of the events, and their notes
+abbrev heardAll : ℕ → ℕ → ℕ → List ℕ → List Bool
+heardAll part select gate bytes = heardLead (hasRegister part) select ++ heardMessage (recordRow select gate bytes) ++ (true ∷ [])
+
+abbrev toldAll : ℕ → ℕ → ℕ → List ℕ → ℕ → List ℕ
+toldAll part select gate bytes note = toldLead (hasRegister part) select ++ toldMessage (recordRow select gate bytes) note ++ (0 ∷ [])
 
 -- the samples of the two messages, the pin low
-abbrev samples : ℕ → ℕ → List ℕ → List Event
-samples select gate bytes = pinned (λ k. false) (registerWrite select 0x02) ++ pinned (λ k. false) (message select (gate * 32) bytes)
+abbrev samples : ℕ → ℕ → ℕ → List ℕ → List Event
+samples part select gate bytes = pinned (λ k. false) (pelMessage part select) ++ pinned (λ k. false) (message select (gate * 32) bytes)
 
 -- with a program-done behind them they are what the event bytes stand for
-events-are : (select gate : ℕ) (bytes : List ℕ) → map eventOf (sentEvents select gate bytes) ≡ samples select gate bytes ++ (ProgramDone ∷ [])
+events-are : (part select gate : ℕ) (bytes : List ℕ) → map eventOf (sentEvents part select gate bytes) ≡ samples part select gate bytes ++ (ProgramDone ∷ [])
 unfolding sentEvents eventOf
-events-are select gate bytes =
-    map-append eventOf (spelled (λ k. false) (registerWrite select 0x02 ++ message select (gate * 32) bytes)) (8 ∷ [])
+events-are part select gate bytes =
+    map-append eventOf (spelled (λ k. false) (pelMessage part select ++ message select (gate * 32) bytes)) (8 ∷ [])
     ∙ ap (λ (es : List Event). es ++ (ProgramDone ∷ []))
-    (played-pinned (λ k. false) (registerWrite select 0x02 ++ message select (gate * 32) bytes)
-    ∙ steady-on (registerWrite select 0x02) (message select (gate * 32) bytes) false)
+    (played-pinned (λ k. false) (pelMessage part select ++ message select (gate * 32) bytes)
+    ∙ steady-on (pelMessage part select) (message select (gate * 32) bytes) false)
 
 -- a chip that they are for rests
-ready-rests : (select : ℕ) (w : World) → Ready select w → resting (w .chip) (w .array) (w .chip .counter) (w .chip .mark) (w .chip .scl) (w .chip .line) ≡ w
-ready-rests select w r i =
+ready-rests : (part select : ℕ) (w : World) → Ready part select w → resting (w .chip) (w .array) (w .chip .counter) (w .chip .mark) (w .chip .scl) (w .chip .line) ≡ w
+ready-rests part select w r i =
     world
     (posed (withTransfer (w .chip) (sym (r .standby) i) (w .chip .counter) (w .chip .mark) (sym (r .load) i)) (sym (r .idle) i) (w .chip .scl) (w .chip .line) (sym (r .standby) i))
     (w .array)
 
--- with PEL set
+-- with PEL set, where there is a register
+abbrev setBy : Bool → Chip → Chip
+setBy has c = withCycle c (cond has (withPel (c .register) true) (c .register)) false (c .wait)
+
 abbrev set : Chip → Chip
-set c = withCycle c (withPel (c .register) true) false (c .wait)
+set c = setBy (hasRegister (c .part)) c
 
 -- with the cycle done it is the chip that is promised
-chip-ends : (gate : ℕ) (c : Chip) (shut : Bool) → c .register .rpel ≡ false → shutAt gate c ≡ shut → chipDone (set c) gate shut ≡ ended gate c
-chip-ends gate c true off e = rw e
-chip-ends gate c false off e =
-    rw e
-    (ap (λ (rpel : Bool). withLevels (withTransfer (withCycle c (withRpel (withPel (c .register) true) rpel) false noWait) Standby (gate * 32) false noLoad) true true) (sym off))
+chip-ends : (gate : ℕ) (c : Chip) (shut : Bool) → (hasRegister (c .part) ≡ true → c .register .rpel ≡ false) → shutAt gate c ≡ shut → chipDone (set c) gate shut ≡ ended gate c
+chip-ends gate c false off e = rw e
+chip-ends gate c true off e = go (hasRegister (c .part)) refl
+  where
+    go : (has : Bool) → hasRegister (c .part) ≡ has → chipDone (set c) gate true ≡ ended gate c
+    go true has =
+        rw (e, has)
+        (ap (λ (rpel : Bool). withLevels (withTransfer (withCycle c (withRpel (withPel (c .register) true) rpel) false (c .wait)) Standby (gate * 32) false noLoad) true true) (off has))
+    go false none = absurd (false≢true (sym (pin-low (c .part) none (c .register .bl) (gate * 32)) ∙ e))
 
 module _ (gate : ℕ) (bytes : List ℕ) (gate-in : gate ≤ 511) (sized : length bytes ≡ 32) (byte-wide : Bytes bytes) (c : Chip) (xs : List ℕ) (scl line shut : Bool)
-    (select-in : c .select ≤ 7) (off : c .register .rpel ≡ false) (e : shutAt gate c ≡ shut) where
+    (select-in : c .select ≤ 7) (off : hasRegister (c .part) ≡ true → c .register .rpel ≡ false) (e : shutAt gate c ≡ shut) where
   -- the samples, at the chip's own select: the record waits, or the sector is locked
-  run-samples : Plays (resting c xs (c .counter) (c .mark) scl line) (samples (c .select) gate bytes)
-      (heardMessage (pelRow (c .select)) ++ heardMessage (recordRow (c .select) gate bytes)) (toldMessage (pelRow (c .select)) 3 ++ toldMessage (recordRow (c .select) gate bytes) (cond shut 4 1))
+  run-samples : Plays (resting c xs (c .counter) (c .mark) scl line) (samples (c .part) (c .select) gate bytes)
+      (heardLead (hasRegister (c .part)) (c .select) ++ heardMessage (recordRow (c .select) gate bytes))
+      (toldLead (hasRegister (c .part)) (c .select) ++ toldMessage (recordRow (c .select) gate bytes) (cond shut 4 1))
       (world (chipThen (set c) gate bytes shut) xs)
-  run-samples =
-      plays-then (pel-message c xs (c .counter) (c .mark) scl line false select-in off)
-      (sector-message (set c) xs 0x0000 false true true false shut gate bytes select-in refl gate-in sized byte-wide e)
+  run-samples = go (hasRegister (c .part)) refl
+    where
+      go : (has : Bool) → hasRegister (c .part) ≡ has
+          → Plays (resting c xs (c .counter) (c .mark) scl line)
+          (pinned (λ k. false) (cond has (registerWrite (c .select) 0x02) []) ++ pinned (λ k. false) (message (c .select) (gate * 32) bytes))
+          (heardLead has (c .select) ++ heardMessage (recordRow (c .select) gate bytes)) (toldLead has (c .select) ++ toldMessage (recordRow (c .select) gate bytes) (cond shut 4 1))
+          (world (chipThen (setBy has c) gate bytes shut) xs)
+      go true has =
+          plays-then (pel-message c xs (c .counter) (c .mark) scl line false has select-in (off has))
+          (sector-message (setBy true c) xs 0x0000 false true true false shut gate bytes select-in refl gate-in sized byte-wide e)
+      go false none = unfold pinned in
+          sector-message c xs (c .counter) (c .mark) scl line false shut gate bytes select-in (always-enabled (c .part) none (c .register .pel)) gate-in sized byte-wide e
 
   -- the whole run
-  run : Plays (resting c xs (c .counter) (c .mark) scl line) (samples (c .select) gate bytes ++ (ProgramDone ∷ []))
-      (heardAll (c .select) gate bytes) (toldAll (c .select) gate bytes (cond shut 4 1)) (world (ended gate c) (arrayThen xs gate bytes everyPlace shut))
+  run : Plays (resting c xs (c .counter) (c .mark) scl line) (samples (c .part) (c .select) gate bytes ++ (ProgramDone ∷ []))
+      (heardAll (c .part) (c .select) gate bytes) (toldAll (c .part) (c .select) gate bytes (cond shut 4 1)) (world (ended gate c) (arrayThen xs gate bytes everyPlace shut))
   run =
       plays-then run-samples
       (subst (λ (d : Chip). Plays (world (chipThen (set c) gate bytes shut) xs) (ProgramDone ∷ []) (true ∷ []) (0 ∷ []) (world d (arrayThen xs gate bytes everyPlace shut)))
       (chip-ends gate c shut off e) (sector-done (set c) xs gate bytes sized shut))
 
+-- a message says nothing before its STOP
+row-silent : (row : List ℕ) (n : ℕ) → length row ≡ n → silent (begin ++ bytesSent row) ≡ replicate (2 + n * 18) 0
+row-silent row n h =
+    let long : length (begin ++ bytesSent row) ≡ 2 + n * 18 = rw (bytes-length row, h) (omega arith) in
+    silent-all (begin ++ bytesSent row) ∙ ap (λ (m : ℕ). replicate m 0) long
+
 -- the notes are those that were promised
-notes-come : (select gate : ℕ) (bytes : List ℕ) (note : ℕ) → length bytes ≡ 32 → toldAll select gate bytes note ≡ notesWith note
-notes-come select gate bytes note sized =
-    ap₂ (λ (first second : List ℕ). (first ++ (0 ∷ 0 ∷ 3 ∷ []) ++ (second ++ (0 ∷ 0 ∷ note ∷ []))) ++ (0 ∷ []))
-    (row-silent (pelRow select) 4 refl)
-    (row-silent (recordRow select gate bytes) 35 (rw sized refl))
+notes-come : (part select gate : ℕ) (bytes : List ℕ) (note : ℕ) → length bytes ≡ 32 → toldAll part select gate bytes note ≡ notesWith part note
+notes-come part select gate bytes note sized = go (hasRegister part)
   where
-    row-silent : (row : List ℕ) (n : ℕ) → length row ≡ n → silent (begin ++ bytesSent row) ≡ replicate (2 + n * 18) 0
-    row-silent row n h =
-        let long : length (begin ++ bytesSent row) ≡ 2 + n * 18 = rw (bytes-length row, h) (omega arith) in
-        silent-all (begin ++ bytesSent row) ∙ ap (λ (m : ℕ). replicate m 0) long
+    second : silent (begin ++ bytesSent (recordRow select gate bytes)) ≡ replicate 632 0
+    second = row-silent (recordRow select gate bytes) 35 (rw sized refl)
+
+    go : (has : Bool) → toldLead has select ++ toldMessage (recordRow select gate bytes) note ++ (0 ∷ []) ≡ cond has (replicate 76 0 ++ (3 ∷ [])) [] ++ replicate 634 0 ++ (note ∷ 0 ∷ [])
+    go true =
+        ap₂ (λ (one two : List ℕ). (one ++ (0 ∷ 0 ∷ 3 ∷ []) ++ (two ++ (0 ∷ 0 ∷ note ∷ []))) ++ (0 ∷ []))
+        (row-silent (pelRow select) 4 refl) second
+    go false = ap (λ (two : List ℕ). (two ++ (0 ∷ 0 ∷ note ∷ [])) ++ (0 ∷ [])) second
 
 -- and so are the acknowledges
-acks-set : (select gate : ℕ) (bytes : List ℕ) (k : ℕ) → k < 4 → AckAt (2 + 18 * k) (heardAll select gate bytes)
+acks-set : (part select gate : ℕ) (bytes : List ℕ) → hasRegister part ≡ true → (k : ℕ) → k < 4 → AckAt (2 + 18 * k) (heardAll part select gate bytes)
 unfolding heardRow heardSent twice
-acks-set select gate bytes k h =
-    row-acked (true ∷ false ∷ []) (pelRow select) ((false ∷ false ∷ true ∷ []) ++ (heardMessage (recordRow select gate bytes) ++ (true ∷ []))) k h
+acks-set part select gate bytes has k h =
+    rw has
+    (row-acked (true ∷ false ∷ []) (pelRow select) ((false ∷ false ∷ true ∷ []) ++ (heardMessage (recordRow select gate bytes) ++ (true ∷ []))) k h)
 
-acks-written : (select gate : ℕ) (bytes : List ℕ) → length bytes ≡ 32 → (k : ℕ) → k < 35 → AckAt (79 + 18 * k) (heardAll select gate bytes)
+acks-written : (part select gate : ℕ) (bytes : List ℕ) → length bytes ≡ 32 → (k : ℕ) → k < 35 → AckAt (lead part + 2 + 18 * k) (heardAll part select gate bytes)
 unfolding heardRow heardSent twice
-acks-written select gate bytes sized k h =
-    subst (λ (end : List Bool). AckAt (79 + 18 * k) (heardMessage (pelRow select) ++ (true ∷ false ∷ []) ++ (heardRow (recordRow select gate []) ++ end)))
-    (sym (append-assoc (heardRow bytes) (false ∷ false ∷ true ∷ []) (true ∷ [])))
-    (row-acked (heardMessage (pelRow select) ++ (true ∷ false ∷ [])) (recordRow select gate bytes) (false ∷ false ∷ true ∷ true ∷ []) k (rw sized h))
+acks-written part select gate bytes sized k h = go (hasRegister part)
+  where
+    go : (has : Bool) → AckAt (cond has 77 0 + 2 + 18 * k) (heardLead has select ++ heardMessage (recordRow select gate bytes) ++ (true ∷ []))
+    go true =
+        subst (λ (end : List Bool). AckAt (79 + 18 * k) (heardMessage (pelRow select) ++ (true ∷ false ∷ []) ++ (heardRow (recordRow select gate []) ++ end)))
+        (sym (append-assoc (heardRow bytes) (false ∷ false ∷ true ∷ []) (true ∷ [])))
+        (row-acked (heardMessage (pelRow select) ++ (true ∷ false ∷ [])) (recordRow select gate bytes) (false ∷ false ∷ true ∷ true ∷ []) k (rw sized h))
+    go false =
+        subst (λ (end : List Bool). AckAt (2 + 18 * k) ((true ∷ false ∷ []) ++ (heardRow (recordRow select gate []) ++ end)))
+        (sym (append-assoc (heardRow bytes) (false ∷ false ∷ true ∷ []) (true ∷ [])))
+        (row-acked (true ∷ false ∷ []) (recordRow select gate bytes) (false ∷ false ∷ true ∷ true ∷ []) k (rw sized h))
 
 -- 32 bytes stored in the sector of a gate are the record there, and nothing beside it
 pub wrote : (gate : ℕ) (bytes xs : List ℕ) → gate ≤ 511 → length bytes ≡ 32 → length xs ≡ 16384 → Wrote gate bytes xs (stored xs (gate * 32) (chosen everyPlace) bytes)
@@ -204,30 +244,36 @@ map-take (suc n) [] = refl
 map-take (suc n) (byte ∷ bytes) = ap (λ (es : List Event). eventOf byte ∷ es) (map-take n bytes)
 
 -- For every record that is not refused, and every chip that the events are for
-module _ (gate : ℕ) (bytes : List ℕ) (select room : ℕ) (accepted : sendRefusal gate bytes select room ≡ 0) (byte-wide : Bytes bytes) (w : World) (ready : Ready select w) where
+module _ (part select gate : ℕ) (bytes : List ℕ) (room : ℕ) (accepted : sendRefusal part select gate bytes room ≡ 0) (byte-wide : Bytes bytes) (w : World) (ready : Ready part select w) where
   -- what was given
-  given : Sendable gate bytes select room
-  given = send-taken gate bytes select room accepted
+  given : Sendable part select gate bytes room
+  given = send-taken part select gate bytes room accepted
 
   -- what the events leave, and what a trace of them answers
   abbrev left : World
-  left = after (sentEvents select gate bytes) w
+  left = after (sentEvents part select gate bytes) w
 
   abbrev answers : List ℕ
-  answers = answersOf (sentEvents select gate bytes) w
+  answers = answersOf (sentEvents part select gate bytes) w
 
   -- the chip and the array that they leave, by whether the sector is locked
   abbrev last : Bool → World
   last shut = world (ended gate (w .chip)) (arrayThen (w .array) gate bytes everyPlace shut)
 
-  -- the run from that chip
+  -- that chip, written out
+  abbrev rested : World
+  rested = resting (w .chip) (w .array) (w .chip .counter) (w .chip .mark) (w .chip .scl) (w .chip .line)
+
+  -- the run from there
   runs : (shut : Bool) → shutAt gate (w .chip) ≡ shut
-      → Plays w (map eventOf (sentEvents select gate bytes)) (heardAll select gate bytes) (toldAll select gate bytes (cond shut 4 1)) (last shut)
+      → Plays w (map eventOf (sentEvents part select gate bytes)) (heardAll part select gate bytes) (toldAll part select gate bytes (cond shut 4 1)) (last shut)
   runs shut e =
-      subst₂ (λ (v : World) (s : ℕ). Plays v (map eventOf (sentEvents s gate bytes)) (heardAll s gate bytes) (toldAll s gate bytes (cond shut 4 1)) (last shut))
-      (ready-rests select w ready) (ready .selected)
-      (rw (events-are (w .chip .select) gate bytes)
-      (run gate bytes (given .gate-in) (given .sized) byte-wide (w .chip) (w .array) (w .chip .scl) (w .chip .line) shut (rw (ready .selected) (given .select-in)) (ready .rpel) e))
+      subst (λ (v : World). Plays v (map eventOf (sentEvents part select gate bytes)) (heardAll part select gate bytes) (toldAll part select gate bytes (cond shut 4 1)) (last shut))
+      (ready-rests part select w ready)
+      (subst₂ (λ (p s : ℕ). Plays rested (map eventOf (sentEvents p s gate bytes)) (heardAll p s gate bytes) (toldAll p s gate bytes (cond shut 4 1)) (last shut))
+      (ready .fitted) (ready .selected)
+      (rw (events-are (w .chip .part) (w .chip .select) gate bytes)
+      (run gate bytes (given .gate-in) (given .sized) byte-wide (w .chip) (w .array) (w .chip .scl) (w .chip .line) shut (rw (ready .selected) (given .select-in)) (ready .rpel) e)))
 
   -- chip and array
   leaves : (shut : Bool) → shutAt gate (w .chip) ≡ shut → left ≡ last shut
@@ -237,62 +283,65 @@ module _ (gate : ℕ) (bytes : List ℕ) (select room : ℕ) (accepted : sendRef
   -- the chip, the notes and the acknowledges
   ends : (shut : Bool) → shutAt gate (w .chip) ≡ shut → Ends (cond shut 4 1) gate w left answers
   ends shut e =
-      let heard : map answerLine answers ≡ heardAll select gate bytes = lines-answered (sentEvents select gate bytes) w ∙ runs shut e .hears in
+      let heard : map answerLine answers ≡ heardAll part select gate bytes = lines-answered (sentEvents part select gate bytes) w ∙ runs shut e .hears in
       record {
         chip = ap (λ (v : World). v .chip) (leaves shut e);
-        notes = notes-answered (sentEvents select gate bytes) w ∙ runs shut e .tells ∙ notes-come select gate bytes (cond shut 4 1) (given .sized);
-        setting = λ k h. subst (AckAt (2 + 18 * k)) (sym heard) (acks-set select gate bytes k h);
-        writing = λ k h. subst (AckAt (79 + 18 * k)) (sym heard) (acks-written select gate bytes (given .sized) k h);
+        notes =
+            notes-answered (sentEvents part select gate bytes) w ∙ runs shut e .tells ∙ notes-come part select gate bytes (cond shut 4 1) (given .sized)
+            ∙ ap (λ (p : ℕ). notesWith p (cond shut 4 1)) (sym (ready .fitted));
+        setting = λ has k h. subst (AckAt (2 + 18 * k)) (sym heard) (acks-set part select gate bytes (ap hasRegister (sym (ready .fitted)) ∙ has) k h);
+        writing = λ k h. subst₂ (λ (p : ℕ) (row : List Bool). AckAt (lead p + 2 + 18 * k) row) (sym (ready .fitted)) (sym heard) (acks-written part select gate bytes (given .sized) k h);
       }
 
   -- Run as a trace, which is not refused where the chip is in range: this is what it leaves and answers
-  pub sent-run : chipFits (w .chip) ≡ true → (old : List ℕ) → 713 ≤ length old
-      → (ranOf (w .chip) (w .array) (sentEvents select gate bytes) old .refusal ≡ 0)
-      × ((world (ranOf (w .chip) (w .array) (sentEvents select gate bytes) old .chip) (runArray (w .chip) (w .array) (sentEvents select gate bytes) old) ≡ left)
-      × (runAnswers (w .chip) (w .array) (sentEvents select gate bytes) old ≡ answers ++ drop 713 old))
+  pub sent-run : chipFits (w .chip) ≡ true → (old : List ℕ) → eventCount part ≤ length old
+      → (ranOf (w .chip) (w .array) (sentEvents part select gate bytes) old .refusal ≡ 0)
+      × ((world (ranOf (w .chip) (w .array) (sentEvents part select gate bytes) old .chip) (runArray (w .chip) (w .array) (sentEvents part select gate bytes) old) ≡ left)
+      × (runAnswers (w .chip) (w .array) (sentEvents part select gate bytes) old ≡ answers ++ drop (eventCount part) old))
   sent-run fits old room =
-      let sized : length (sentEvents select gate bytes) ≡ 713 = sent-length select gate bytes (given .sized) in
+      let sized : length (sentEvents part select gate bytes) ≡ eventCount part = sent-length part select gate bytes (given .sized) in
       let whole-chip : refusal (w .chip) (w .array) ≡ 0 = taken-so (w .chip) (w .array) (ready .whole) fits in
-      let few : length (sentEvents select gate bytes) ≤ 65536 = omega arith in
-      let enough : length (sentEvents select gate bytes) ≤ length old = omega arith in
-      let all : allEvents (sentEvents select gate bytes) ≡ true = sent-events select gate bytes (given .sized) in (
-        run-taken (w .chip) (w .array) (sentEvents select gate bytes) old whole-chip few enough all,
+      let few : length (sentEvents part select gate bytes) ≤ 65536 = omega (arith, sized, lead-count part, lead-most part) in
+      let enough : length (sentEvents part select gate bytes) ≤ length old = omega arith in
+      let all : allEvents (sentEvents part select gate bytes) ≡ true = sent-events part select gate bytes (given .sized) in (
+        run-taken (w .chip) (w .array) (sentEvents part select gate bytes) old whole-chip few enough all,
         (
-          run-whole (w .chip) (w .array) (sentEvents select gate bytes) old whole-chip few enough all,
-          run-answers (w .chip) (w .array) (sentEvents select gate bytes) old whole-chip few enough all ∙ ap (λ (n : ℕ). answers ++ drop n old) sized,
+          run-whole (w .chip) (w .array) (sentEvents part select gate bytes) old whole-chip few enough all,
+          run-answers (w .chip) (w .array) (sentEvents part select gate bytes) old whole-chip few enough all ∙ ap (λ (n : ℕ). answers ++ drop n old) sized,
         ),
       )
 
   -- The chip is ready for the next record
-  pub sent-again : Ready select left
+  pub sent-again : Ready part select left
   sent-again = by-test (shutAt gate (w .chip)) refl
     where
-      again : (ys : List ℕ) → length ys ≡ 16384 → left ≡ world (ended gate (w .chip)) ys → Ready select left
+      again : (ys : List ℕ) → length ys ≡ 16384 → left ≡ world (ended gate (w .chip)) ys → Ready part select left
       again ys whole e =
-          subst (Ready select) (sym e)
-          (record { selected = ready .selected; idle = refl; standby = refl; rpel = ready .rpel; load = refl; whole = whole })
+          subst (Ready part select) (sym e)
+          (record { fitted = ready .fitted; selected = ready .selected; idle = refl; standby = refl; rpel = λ has. refl; load = refl; whole = whole })
 
-      by-test : (shut : Bool) → shutAt gate (w .chip) ≡ shut → Ready select left
+      by-test : (shut : Bool) → shutAt gate (w .chip) ≡ shut → Ready part select left
       by-test true e = again (w .array) (ready .whole) (leaves true e)
       by-test false e = again (last false .array) (length-stored (w .array) (gate * 32) (chosen everyPlace) bytes ∙ ready .whole) (leaves false e)
 
   -- the samples alone
   abbrev front : List Event
-  front = samples select gate bytes
+  front = samples part select gate bytes
 
   front-samples : every isSample front ≡ true
   front-samples =
-      every-on isSample (pinned (λ k. false) (registerWrite select 0x02)) (pinned (λ k. false) (message select (gate * 32) bytes))
-      (pinned-samples (λ k. false) (registerWrite select 0x02)) (pinned-samples (λ k. false) (message select (gate * 32) bytes))
+      every-on isSample (pinned (λ k. false) (pelMessage part select)) (pinned (λ k. false) (message select (gate * 32) bytes))
+      (pinned-samples (λ k. false) (pelMessage part select)) (pinned-samples (λ k. false) (message select (gate * 32) bytes))
 
   -- they leave the chip with the record waiting, or idle where the sector is locked
   front-ends : (shut : Bool) → shutAt gate (w .chip) ≡ shut → ran front w ≡ world (chipThen (set (w .chip)) gate bytes shut) (w .array)
   front-ends shut e =
-      subst₂ (λ (v : World) (s : ℕ). ran (samples s gate bytes) v ≡ world (chipThen (set (w .chip)) gate bytes shut) (w .array)) (ready-rests select w ready) (ready .selected)
-      (run-samples gate bytes (given .gate-in) (given .sized) byte-wide (w .chip) (w .array) (w .chip .scl) (w .chip .line) shut (rw (ready .selected) (given .select-in)) (ready .rpel) e .ends)
+      subst (λ (v : World). ran front v ≡ world (chipThen (set (w .chip)) gate bytes shut) (w .array)) (ready-rests part select w ready)
+      (subst₂ (λ (p s : ℕ). ran (samples p s gate bytes) rested ≡ world (chipThen (set (w .chip)) gate bytes shut) (w .array)) (ready .fitted) (ready .selected)
+      (run-samples gate bytes (given .gate-in) (given .sized) byte-wide (w .chip) (w .array) (w .chip .scl) (w .chip .line) shut (rw (ready .selected) (given .select-in)) (ready .rpel) e .ends))
 
   -- at a point before the program-done
-  module _ (n : ℕ) (early : n < 713) where
+  module _ (n : ℕ) (early : n < eventCount part) where
     abbrev sofar : List Event
     sofar = take n front
 
@@ -300,12 +349,12 @@ module _ (gate : ℕ) (bytes : List ℕ) (select room : ℕ) (accepted : sendRef
     there = ran sofar w
 
     -- the events so far are samples
-    there-is : after (take n (sentEvents select gate bytes)) w ≡ there
+    there-is : after (take n (sentEvents part select gate bytes)) w ≡ there
     unfolding after
     there-is =
-        let all : length (front ++ (ProgramDone ∷ [])) ≡ 713 = ap length (sym (events-are select gate bytes)) ∙ length-map (sentEvents select gate bytes) eventOf ∙ sent-length select gate bytes (given .sized) in
+        let all : length (front ++ (ProgramDone ∷ [])) ≡ eventCount part = ap length (sym (events-are part select gate bytes)) ∙ length-map (sentEvents part select gate bytes) eventOf ∙ sent-length part select gate bytes (given .sized) in
         let most : n ≤ length front = omega (arith, length-append front (ProgramDone ∷ [])) in
-        ap (λ (es : List Event). ran es w) (map-take n (sentEvents select gate bytes) ∙ ap (take n) (events-are select gate bytes) ∙ take-append-le n front (ProgramDone ∷ []) most)
+        ap (λ (es : List Event). ran es w) (map-take n (sentEvents part select gate bytes) ∙ ap (take n) (events-are part select gate bytes) ∙ take-append-le n front (ProgramDone ∷ []) most)
 
     parts : (every isSample sofar ≡ true) × (every isSample (drop n front) ≡ true)
     parts = every-parts sofar (drop n front) (ap (every isSample) (take-append-drop n front) ∙ front-samples)
@@ -326,7 +375,7 @@ module _ (gate : ℕ) (bytes : List ℕ) (select room : ℕ) (accepted : sendRef
         go false waiting b = waiting
 
     -- Cut off there by a power-up with any choices: each byte of the sector is the old one or the record's, and every other byte is kept
-    pub sent-cut : (choices : ℕ) → Cut gate bytes (w .array) (cutAfter n choices select gate bytes w .array)
+    pub sent-cut : (choices : ℕ) → Cut gate bytes (w .array) (cutAfter n choices part select gate bytes w .array)
     sent-cut choices =
         subst (λ (v : World). Cut gate bytes (w .array) (step (PowerUp choices) v .array)) (sym there-is)
         (subst (Cut gate bytes (w .array)) (sym (by-test (there .chip .busy) refl .0)) (by-test (there .chip .busy) refl .1))

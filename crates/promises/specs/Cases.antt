@@ -198,7 +198,7 @@ begins w first below =
     && agree (told (message 0 first (upFrom 32 1)) w) (4 ∷ [])
     && agree (told (message 0 below (upFrom 32 1)) w) (1 ∷ [])
 
--- 8. BL 1 locks 3000h and not 2FFFh; BL 2 locks 2000h and not 1FFFh: of both parts, BL written by register bytes 0Ah and 12h
+-- 8. BL 1 locks 3000h and not 2FFFh; BL 2 locks 2000h and not 1FFFh: of both parts with a register, BL written by register bytes 0Ah and 12h
 abbrev pub case-8 : Bool
 case-8 =
     begins (locking 0x0a (fresh 0)) 0x3000 0x2fff

@@ -15,6 +15,7 @@ use mathlib.Core.List.{List, _++_, map}
 use mathlib.Core.Path.{_≡_}
 use lib.ListN.{length, drop}
 use Rattle.parts.specs.Locks.{locked}
+use Rattle.parts.specs.Register.{hasRegister}
 use Rattle.parts.specs.Sector.{Bytes}
 use Rattle.chip.specs.Chip.{atPowerUp}
 use Rattle.chip.specs.Run.{World, world, step, ran}
@@ -27,7 +28,7 @@ use Rattle.trace.specs.Trace.{answersOf, ranOf, runAnswers}
 use Rattle.messages.specs.RandomRead.{randomRead, Acknowledged, bitsRead, bytesRead, held}
 use Rattle.messages.specs.Wires.{spelled, heardOf, bitsOf}
 
--- a chip of either part as power-up leaves it, with any select, PPEN, BL and spoil byte, any array of 16,384 bytes, and whatever events came since
+-- a chip of any part as power-up leaves it, with any select, PPEN, BL and spoil byte, any array of 16,384 bytes, and whatever events came since
 pub record FromPowerUp (w : World) : Type 0 where
   pub part : ℕ
   pub select : ℕ
@@ -36,7 +37,7 @@ pub record FromPowerUp (w : World) : Type 0 where
   pub spoil : ℕ
   pub array : List ℕ
   pub run : List Event
-  pub part-in : part ≤ 1
+  pub part-in : part ≤ 2
   pub select-in : select ≤ 7
   pub bl-in : bl ≤ 3
   pub spoil-in : spoil < 0x100
@@ -80,14 +81,14 @@ heard s w = heardOf (s .pins) (randomRead (w .chip .select) (s .address) (s .n))
 
 -- D3: the chip before the noise, the noise, and where the read goes
 pub record Protected (s : Scene) (w : World) : Type 0 where
-  -- no cycle is in progress: one could end with PPEN and BL that unlock
+  -- no cycle is in progress: one could end with PPEN and BL that unlock, or in a sector that the pin alone locks
   pub idle : w .chip .busy ≡ false
-  -- the chip is hardware-protected, and a region of it is locked
-  pub ppen-set : w .chip .register .ppen ≡ true
-  pub region-locked : w .chip .register .bl ≡ 0 → ⊥
+  -- where there is a register, the chip is hardware-protected and a region of it is locked; where there is none, nothing is asked of its bits
+  pub ppen-set : hasRegister (w .chip .part) ≡ true → w .chip .register .ppen ≡ true
+  pub region-locked : hasRegister (w .chip .part) ≡ true → w .chip .register .bl ≡ 0 → ⊥
   -- no sample of the noise has the pin low; power-ups with any choices and program-dones may stand among them
   pub pin-high : pinsHigh (s .noise) ≡ true
-  -- the read begins in the array, and each address that it comes to, 0000h after 3FFFh, is locked
+  -- the read begins in the array, and each address that it comes to, 0000h after 3FFFh, is locked while the pin is high
   pub address-in : s .address ≤ 0x3fff
   pub stays-locked : (k : ℕ) → k < s .n → locked (w .chip .part) (w .chip .register .bl) true ((s .address + k) % 0x4000) ≡ true
 

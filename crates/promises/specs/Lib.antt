@@ -7,3 +7,4 @@ pub mod Runs
 pub mod Sender
 pub mod SenderRuns
 pub mod Spoil
+pub mod Unread

@@ -3,10 +3,10 @@
 --
 -- | Name | Meaning |
 -- |---|---|
--- | `Ready select w` | a chip that the events are for |
+-- | `Ready part select w` | a chip that the events are for |
 -- | `shutAt gate c` | the gate's sector is locked |
--- | `ended gate c` | the chip afterwards |
--- | `notesWith note` | the notes of the 713 events, this one at the last STOP |
+-- | `registerEnded c`, `ended gate c` | the register and the chip afterwards |
+-- | `notesWith part note` | the notes of the events, this one at the last STOP |
 -- | `Ends note` | how the events end: the chip, and the notes and acknowledges in their answers |
 -- | `Wrote` | the sector holds the record, and every other byte is kept |
 -- | `cutAfter n choices` | what is left where the power is lost after n of the events |
@@ -19,28 +19,30 @@ use mathlib.Core.Path.{_≡_}
 use lib.ListN.{length, getD, take, drop, replicate}
 use Rattle.parts.specs.Load.{noLoad}
 use Rattle.parts.specs.Locks.{locked}
-use Rattle.parts.specs.Register.{withPel}
+use Rattle.parts.specs.Register.{hasRegister, withPel, withRpel}
 use Rattle.parts.specs.Sector.{sectorStart, sectorOf}
 use Rattle.parts.specs.Wait.{noWait}
 use Rattle.parts.specs.declared.phase.Phase.the-variants.{Standby}
+use Rattle.parts.specs.declared.register.Register.{Register}
 use Rattle.chip.specs.Chip.{withTransfer, withCycle, withLevels}
 use Rattle.chip.specs.Run.{World, step}
 use Rattle.chip.specs.declared.chip.Chip.{Chip}
 use Rattle.chip.specs.declared.wire.Event.the-variants.{PowerUp}
 use Rattle.trace.specs.Bytes.{answerLine, answerNote}
 use Rattle.trace.specs.Trace.{after}
-use Rattle.sender.specs.Sending.{sentEvents}
+use Rattle.sender.specs.Sending.{lead, sentEvents}
 use Rattle.messages.specs.Messages.{begin}
 use Rattle.messages.specs.RandomRead.{AckAt, randomRead, bytesRead}
 use Rattle.messages.specs.Wires.{heardOf}
 
--- A6: idle in standby with RPEL 0, as after a power-up, at the same select, over a whole array (reading: with no load). PEL, PPEN, BL, the
--- counter, the mark and the last levels may be any
-pub record Ready (select : ℕ) (w : World) : Type 0 where
+-- A6: a chip of this part, at the same select, idle in standby, as after a power-up, with RPEL 0 where there is a register, over a whole array (reading: with no load).
+-- PEL, PPEN, BL, the counter, the mark and the last levels may be any
+pub record Ready (part select : ℕ) (w : World) : Type 0 where
+  pub fitted : w .chip .part ≡ part
   pub selected : w .chip .select ≡ select
   pub idle : w .chip .busy ≡ false
   pub standby : w .chip .phase ≡ Standby
-  pub rpel : w .chip .register .rpel ≡ false
+  pub rpel : hasRegister (w .chip .part) ≡ true → w .chip .register .rpel ≡ false
   pub load : w .chip .load ≡ noLoad
   pub whole : length (w .array) ≡ 16384
 
@@ -48,22 +50,26 @@ pub record Ready (select : ℕ) (w : World) : Type 0 where
 abbrev pub shutAt : ℕ → Chip → Bool
 shutAt gate c = locked (c .part) (c .register .bl) false (gate * 32)
 
--- A9: idle in standby with PEL set, part, select, PPEN, BL and RPEL as they were, nothing waiting; the counter stands at the sector's start. Where the sector is locked
--- no cycle begins, and what a caller's chip says that waits stays
+-- A9: PEL is set where there is a register, RPEL is clear
+abbrev pub registerEnded : Chip → Register
+registerEnded c = withRpel (cond (hasRegister (c .part)) (withPel (c .register) true) (c .register)) false
+
+-- A9: idle in standby, part, select, PPEN and BL as they were, nothing waiting; the counter stands at the sector's start. Where the sector is locked no cycle begins, and
+-- what a caller's chip says that waits stays
 abbrev pub ended : ℕ → Chip → Chip
 ended gate c =
-    withLevels (withTransfer (withCycle c (withPel (c .register) true) false (cond (shutAt gate c) (c .wait) noWait)) Standby (gate * 32) false noLoad) true true
+    withLevels (withTransfer (withCycle c (registerEnded c) false (cond (shutAt gate c) (c .wait) noWait)) Standby (gate * 32) false noLoad) true true
 
--- A9: 3 at event 76, where PEL is set, this note at event 711, 0 at all others
-abbrev pub notesWith : ℕ → List ℕ
-notesWith note = replicate 76 0 ++ (3 ∷ []) ++ replicate 634 0 ++ (note ∷ 0 ∷ [])
+-- A9: where PEL is set 3 at event 76; this note at the record's STOP, 0 at all others
+abbrev pub notesWith : ℕ → ℕ → List ℕ
+notesWith part note = cond (hasRegister part) (replicate 76 0 ++ (3 ∷ [])) [] ++ replicate 634 0 ++ (note ∷ 0 ∷ [])
 
--- A9: how the chip ends, the notes, and an acknowledge for each of the 4 and 35 bytes that are sent, the first of which begin at events 2 and 79
+-- A9: how the chip ends, the notes, and an acknowledge for each of the 4 bytes that set PEL and of the 35 of the record's message, which begins behind them
 pub record Ends (note gate : ℕ) (w w′ : World) (answers : List ℕ) : Type 0 where
   pub chip : w′ .chip ≡ ended gate (w .chip)
-  pub notes : map answerNote answers ≡ notesWith note
-  pub setting : (k : ℕ) → k < 4 → AckAt (2 + 18 * k) (map answerLine answers)
-  pub writing : (k : ℕ) → k < 35 → AckAt (79 + 18 * k) (map answerLine answers)
+  pub notes : map answerNote answers ≡ notesWith (w .chip .part) note
+  pub setting : hasRegister (w .chip .part) ≡ true → (k : ℕ) → k < 4 → AckAt (2 + 18 * k) (map answerLine answers)
+  pub writing : (k : ℕ) → k < 35 → AckAt (lead (w .chip .part) + 2 + 18 * k) (map answerLine answers)
 
 -- A7, G1: the record of gate k lies in sector k; that sector then holds the record and every other byte is kept
 pub record Wrote (gate : ℕ) (bytes xs ys : List ℕ) : Type 0 where
@@ -72,8 +78,8 @@ pub record Wrote (gate : ℕ) (bytes xs ys : List ℕ) : Type 0 where
   pub others : (a : ℕ) → (sectorStart a ≡ gate * 32 → ⊥) → getD ys a 0 ≡ getD xs a 0
 
 -- A11: a power-up with any choices after the first n of the events
-abbrev pub cutAfter : ℕ → ℕ → ℕ → ℕ → List ℕ → World → World
-cutAfter n choices select gate bytes w = step (PowerUp choices) (after (take n (sentEvents select gate bytes)) w)
+abbrev pub cutAfter : ℕ → ℕ → ℕ → ℕ → ℕ → List ℕ → World → World
+cutAfter n choices part select gate bytes w = step (PowerUp choices) (after (take n (sentEvents part select gate bytes)) w)
 
 -- byte by byte
 pub data OldOrNew (old new byte : ℕ) : Type 0 where

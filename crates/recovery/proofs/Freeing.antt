@@ -15,6 +15,7 @@ use Rattle.parts.proofs.CondLaws.{cond-by}
 use Rattle.parts.proofs.PhaseLaws.{Loose, risen-pulls}
 use Rattle.chip.specs.Chip.{pulls, withTransfer, withLevels}
 use Rattle.chip.specs.Event.{next, nextArray, sampled, judged, reacted}
+use Rattle.chip.specs.Part.{marked}
 use Rattle.chip.specs.Run.{World, world, step}
 use Rattle.chip.specs.Transfer.{fallIn, byteBegun, byteEnded, nextByte}
 use Rattle.chip.specs.Wire.{sample, lineOf, edgeOf}
@@ -76,7 +77,7 @@ unfolding fallIn byteEnded phasePulls step next nextArray sampled judged reacted
 sends zero pin c xs byte =
     let d : Chip = idleAt c true (Sending zero byte) in
     falling 0 pin c xs (Sending zero byte)
-    (cond-by (λ (d : Chip). Half 0 pin (lowered d xs)) (c .mark)
+    (cond-by (λ (d : Chip). Half 0 pin (lowered d xs)) (marked (c .part) (c .mark))
     (withTransfer d Standby 0x0000 false (c .load)) (withTransfer d Waiting (nextAddress (c .counter)) (c .mark) (c .load))
     (λ e. let-go 0 pin (withTransfer d Standby 0x0000 false (c .load)) xs Standby refl)
     (λ e. let-go 0 pin (withTransfer d Waiting (nextAddress (c .counter)) (c .mark) (c .load)) xs Waiting refl))

@@ -100,7 +100,7 @@ ranged-by true true number a h = rw (h refl) refl
 ranged-by true false number a h = rw (h refl) refl
 ranged-by false events number a h = refl
 
--- so for chips of either part: over 4,096 events are refused with 4, then a byte that is no event with 6, and nothing else is refused
+-- so for chips of every part: over 4,096 events are refused with 4, then a byte that is no event with 6, and nothing else is refused
 pub report-ranged :
     (c : Chip) (bytes : List ℕ)
     → chipFits c ≡ true

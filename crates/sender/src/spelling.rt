@@ -4,8 +4,9 @@ ghost use Prim.Native.Nat.{_+_, _*_, _≤_};
 ghost use lib.ListN.{length};
 ghost use Rattle.messages.specs.Messages.{begin, end, byteSent, bytesSent, message};
 ghost use Rattle.messages.specs.Wires.{clock};
-ghost use Rattle.sender.specs.Sending.{low, over};
+ghost use Rattle.sender.specs.Sending.{low, over, pelMessage, lead};
 use parts::phase::bit_of;
+use parts::register::has_register;
 use trace::sample_byte;
 
 // One clock: SCL low, then high, with one SDA in both.
@@ -72,4 +73,16 @@ pub(crate) fn put_message(events: &mut [u8], at: usize, select: u8, address: u16
     put_byte(events, at + 38, (address % 256) as u8);
     put_bytes(events, at + 56, bytes);
     put_end(events, at + 56 + bytes.len() * 18);
+}
+
+// The message that sets PEL, from the front on, where the part has one: how many events that is.
+pub(crate) fn put_lead(events: &mut [u8], part: u8, select: u8) -> usize
+    requires { ⌜ (select ≤ 7) × (lead part ≤ length (now events)) ⌝ }
+    ensures { λ r. ⌜ (r ≡ lead part) × (now (events .exit) ≡ over 0 (low (pelMessage part select)) (now (events .entry))) ⌝ }
+{
+    if has_register(part) {
+        put_message(events, 0, select, 0xffff, &[0x02]);
+        return 77;
+    }
+    0
 }

@@ -1,4 +1,4 @@
--- Reading's answer first, then the three tests in their order. Assumes nothing.
+-- Reading's answer first, then the four tests in their order. Assumes nothing.
 use mathlib.Core.List.{[], _∷_}
 use mathlib.Core.Logic.{⊎-elim}
 use mathlib.Core.Path.{_≡_, refl, sym, _∙_}
@@ -47,6 +47,12 @@ refusal-spec =
     (λ c.
     let told = c .before .before .before in
     simp (sym (told .before .before .read .ensures) ∙ told .enum-told .given .1, le-ltb _ _ (c .before .before .if1 .left), le-ltb _ _ (c .before .if2 .left), lt-ltb _ _ (c .if3 .taken)))
+    (λ c κs. search needs)
     (λ c.
-    let told = c .before .before .before in
-    simp (sym (told .before .before .read .ensures) ∙ told .enum-told .given .1, le-ltb _ _ (c .before .before .if1 .left), le-ltb _ _ (c .before .if2 .left), le-ltb _ _ (c .if3 .left))))
+    let good = c .before .before in
+    let told = good .before .before .before in
+    simp (sym (told .before .before .read .ensures) ∙ told .enum-told .given .1, le-ltb _ _ (good .before .before .if1 .left), le-ltb _ _ (good .before .if2 .left), le-ltb _ _ (good .if3 .left), lt-ltb _ _ (rw (c .before .event-count .ensures) at (c .if4 .taken))))
+    (λ c.
+    let good = c .before .before in
+    let told = good .before .before .before in
+    simp (sym (told .before .before .read .ensures) ∙ told .enum-told .given .1, le-ltb _ _ (good .before .before .if1 .left), le-ltb _ _ (good .before .if2 .left), le-ltb _ _ (good .if3 .left), le-ltb _ _ (rw (c .before .event-count .ensures) at (c .if4 .left)))))

@@ -11,9 +11,10 @@ send-record-spec =
     (tie.spec
     (λ c. search needs)
     (λ c. search needs)
-    (λ c. sym (length-take-le _ _ (c .before .before .before .before .if1 .taken)))
     (λ c. search needs)
-    (λ c. sym (length-take-le _ _ (c .before .before .before .before .if2 .taken)))
+    (λ c. sym (length-take-le _ _ (c .before .before .before .before .before .if1 .taken)))
+    (λ c. search needs)
+    (λ c. sym (length-take-le _ _ (c .before .before .before .before .before .if2 .taken)))
     (λ c κs. search needs)
     (λ c κs. search needs)
     (λ c. search needs)

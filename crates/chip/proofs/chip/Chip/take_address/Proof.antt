@@ -1,6 +1,5 @@
--- FFFFh leaves the counter, any other address its low fourteen bits. Assumes nothing.
+-- The register's address leaves the counter, any other address its low fourteen bits. Assumes nothing.
 use borrow.Author.Needs.{needs}
-use borrow.Author.Tests.{eq-eqb, ne-eqb}
 use Rattle.chip.specs.Transfer.{addressTaken}
 use Rattle.chip.proofs.chip.Chip.take_address.Statement.{statement}
 use Rattle.chip.proofs.chip.Chip.take_address.Tie as tie
@@ -12,5 +11,6 @@ take-address-spec =
     (tie.spec
     (λ c. search needs)
     (λ c. search needs)
-    (λ c. simp (eq-eqb _ _ (c .before .before .before .if1 .taken)))
-    (λ c. simp (ne-eqb _ _ (c .before .before .before .if1 .left))))
+    (λ c κs. search needs)
+    (λ c. simp (rw (c .before .before .before .before .has-register .ensures) at (c .before .before .before .if1 .taken)))
+    (λ c. simp (rw (c .before .before .before .before .has-register .ensures) at (c .before .before .before .if1 .left))))
