@@ -1,7 +1,7 @@
 /*
  * The paper's worked cases 1 to 13, its errors that look right, demand 3 on random noise, and what the requests for the
- * sender, for short loads, for the map, for power cuts and for accents say, on the model and on the library. What is
- * expected stands here as the paper gives it.
+ * sender, for short loads, for the map, for power cuts, for accents and for the part without a register say, on the
+ * model and on the library. What is expected stands here as the paper gives it.
  */
 #include <stdio.h>
 #include <string.h>
@@ -52,6 +52,16 @@ static int note_of(uint8_t event)
     uint8_t answer;
 
     return bench.kit->event(&bench.chip, bench.array, CREP_ARRAY, event, &answer) == 0 ? CREP_NOTE(answer) : -1;
+}
+
+/* The register's bits as a read of it gives them, and the mark in bit 0. */
+static void put_bits(uint8_t bits)
+{
+    bench.chip.ppen = bits >> 7;
+    bench.chip.bl = bits >> 3 & 3;
+    bench.chip.rpel = bits >> 2 & 1;
+    bench.chip.pel = bits >> 1 & 1;
+    bench.chip.mark = bits & 1;
 }
 
 /* Whether every byte of the array is this one. */
@@ -252,13 +262,13 @@ static int what_never_spoils(const struct kit *kit)
     return good && last_note() == 3 && note_of(8) == 0 && bench.array[0] == 0xff && !bench.chip.busy;
 }
 
-/* FFh in a new chip of either part and in that of refusal 3; program-done, power-ups and a recovery keep any other. */
+/* FFh in a new chip of any part and in that of refusal 3; program-done, power-ups and a recovery keep any other. */
 static int spoil_is_kept(const struct kit *kit)
 {
     uint8_t pulses;
     int good = kit->make(&bench.chip, 0, 7) == 0 && bench.chip.spoil == 0xff && kit->make(&bench.chip, 1, 0) == 0
-        && bench.chip.spoil == 0xff && kit->make(&bench.chip, 2, 0) == 3 && bench.chip.spoil == 0xff
-        && leaves(kit, 0, 0x3c, 0x0100, 31, 5, 0x3c);
+        && bench.chip.spoil == 0xff && kit->make(&bench.chip, 2, 0) == 0 && bench.chip.spoil == 0xff
+        && kit->make(&bench.chip, 3, 0) == 3 && bench.chip.spoil == 0xff && leaves(kit, 0, 0x3c, 0x0100, 31, 5, 0x3c);
 
     good = good && note_of(9) == 0 && note_of(10) == 0 && note_of(11) == 0 && bench.chip.spoil == 0x3c;
     return good && kit->recover(&bench.chip, bench.array, CREP_ARRAY, 0, &pulses) == 0 && bench.chip.spoil == 0x3c;
@@ -282,7 +292,7 @@ static int spoilt_sector_is_no_gate(const struct kit *kit)
         && spoilt_reads(kit, 0xa5) == 13;
 }
 
-/* 8. BL 1 locks 3000h and not 2FFFh; BL 2 locks 2000h and not 1FFFh. */
+/* 8. BL 1 locks 3000h and not 2FFFh; BL 2 locks 2000h and not 1FFFh. On both parts that have BL. */
 static int case_8(const struct kit *kit)
 {
     int part, good = 1;
@@ -345,7 +355,7 @@ static int case_12(const struct kit *kit)
     return pulses_in_acknowledge(kit, 1) == 9;
 }
 
-/* 13. 9, the message that sets PEL: 78 events, note 3 at 77 and no other, on either part. */
+/* 13. 9, the message that sets PEL: 78 events, note 3 at 77 and no other, on either part that has PEL. */
 static int case_13(const struct kit *kit)
 {
     uint8_t part;
@@ -368,7 +378,7 @@ static int standard_chip(const struct kit *kit)
     struct crep_chip standard, chip;
 
     return kit->make(&standard, CREP_X24F128, 0) == 0 && standard.part == 1 && standard.select == 0
-        && kit->make(&chip, 2, 0) == 3 && memcmp(&chip, &standard, sizeof chip) == 0
+        && kit->make(&chip, 3, 0) == 3 && memcmp(&chip, &standard, sizeof chip) == 0
         && kit->make(&chip, CREP_X24128, 8) == 3 && memcmp(&chip, &standard, sizeof chip) == 0
         && kit->make(&chip, 255, 255) == 3 && memcmp(&chip, &standard, sizeof chip) == 0;
 }
@@ -431,26 +441,30 @@ static void attack(struct chance *chance)
     }
 }
 
-/* A chip that is not busy, with PPEN set and a region locked, and its noise. Returns the first locked address. */
-static unsigned noisy_bench(const struct kit *kit, struct chance *chance)
+/* A chip that is not busy, with PPEN set and a region locked, or an X24F129 with any register bits and mark, and its
+ * noise. Returns the first locked address. */
+static unsigned noisy_bench(const struct kit *kit, struct chance *chance, uint8_t part)
 {
     static const unsigned first[4] = { 0x4000, 0x3000, 0x2000, 0x0000 };
 
-    open_bench(kit, (uint8_t)chance_below(chance, 2));
+    open_bench(kit, part);
     bench.chip.select = (uint8_t)chance_below(chance, 8);
-    bench.chip.ppen = 1;
-    bench.chip.bl = (uint8_t)(1 + chance_below(chance, 3));
+    if (part == CREP_X24F129)
+        put_bits(chance_byte(chance));
+    else
+        put_bits((uint8_t)(0x80 | (1 + chance_below(chance, 3)) << 3));
     bench.chip.spoil = chance_byte(chance);
     chance_fill(chance, bench.array, CREP_ARRAY);
     attack(chance);
     noise(chance, chance_below(chance, 2000));
-    return first[bench.chip.bl];
+    return part == CREP_X24F129 ? 0x3000 : first[bench.chip.bl];
 }
 
 /* A random read that goes on from the START that the recovery has made, pin free. */
-static int read_on(unsigned address, unsigned n)
+static int read_on(unsigned address, unsigned n, int pin)
 {
     wire_open(&bench.wire, bench.trace, sizeof bench.trace);
+    bench.wire.pin = pin;
     wire_read(&bench.wire, bench.chip.select, address, n);
     bench.wire.len -= 2;
     memmove(bench.trace, bench.trace + 2, bench.wire.len);
@@ -458,19 +472,20 @@ static int read_on(unsigned address, unsigned n)
 }
 
 /* Demand 3: after any noise a recovery of at most ten pulses, and a random read gives the bytes held before. */
-static int one_demand_3(const struct kit *kit, struct chance *chance)
+static int one_demand_3(const struct kit *kit, struct chance *chance, uint8_t part)
 {
     static uint8_t before[CREP_ARRAY];
-    uint8_t pulses;
-    unsigned first = noisy_bench(kit, chance), n = 1 + chance_below(chance, 8), i;
+    uint8_t pulses, pin;
+    unsigned first = noisy_bench(kit, chance, part), n = 1 + chance_below(chance, 8), i;
     unsigned address = first + chance_below(chance, 0x4000 - first - n + 1);
 
     memcpy(before, bench.array, CREP_ARRAY);
     if (last_note() < 0 || note_of(8) != 0)
         return 0;
-    if (kit->recover(&bench.chip, bench.array, CREP_ARRAY, 1, &pulses) != 0 || pulses < 1 || pulses > 10)
+    pin = (uint8_t)chance_below(chance, 2);
+    if (kit->recover(&bench.chip, bench.array, CREP_ARRAY, pin, &pulses) != 0 || pulses < 1 || pulses > 10)
         return 0;
-    if (!read_on(address, n))
+    if (!read_on(address, n, (int)chance_below(chance, 2)))
         return 0;
     for (i = 0; i < n; i++)
         if (byte_at(bench.wire.len - 3 - 18 * (n - i)) != before[address + i])
@@ -484,7 +499,19 @@ static int demand_3(const struct kit *kit)
     int i;
 
     for (i = 0; i < 500; i++)
-        if (!one_demand_3(kit, &chance))
+        if (!one_demand_3(kit, &chance, (uint8_t)chance_below(&chance, 2)))
+            return 0;
+    return 1;
+}
+
+/* The same of 3000h-3FFFh on an X24F129, by the pin alone. */
+static int demand_3_by_the_pin(const struct kit *kit)
+{
+    struct chance chance = { 7 };
+    int i;
+
+    for (i = 0; i < 500; i++)
+        if (!one_demand_3(kit, &chance, CREP_X24F129))
             return 0;
     return 1;
 }
@@ -528,7 +555,7 @@ static uint8_t open_send(const struct kit *kit, uint8_t part, uint8_t select, ui
     bench.chip.select = select;
     refusal = kit->record_write(north, sizeof north, 0, 1200, (const uint8_t *)"NORTH", 5);
     if (refusal == 0)
-        refusal = kit->send(select, gate, north, sizeof north, bench.trace, CREP_SEND, &events);
+        refusal = kit->send(part, select, gate, north, sizeof north, bench.trace, CREP_SEND, &events);
     bench.wire.len = refusal == 0 ? events : 0;
     return refusal;
 }
@@ -540,6 +567,16 @@ static int notes_are(int first, int second)
 
     for (i = 0; i < 713; i++)
         good = good && CREP_NOTE(bench.answers[i]) == (i == 76 ? first : i == 711 ? second : 0);
+    return good;
+}
+
+/* Runs what was sent to an X24F129: this note at event 634, 0 at all others. */
+static int note_634_is(int note)
+{
+    int i, good = last_note() == 0 && bench.wire.len == 636;
+
+    for (i = 0; i < 636; i++)
+        good = good && CREP_NOTE(bench.answers[i]) == (i == 634 ? note : 0);
     return good;
 }
 
@@ -557,7 +594,8 @@ static int spelt(uint8_t select)
     return wire.len == 713 && memcmp(bench.trace, wanted, sizeof wanted) == 0;
 }
 
-/* Gate 17 stands at 0220h afterwards on either part, every other byte is kept, and the chip is idle with PEL 1. */
+/* Gate 17 stands at 0220h afterwards on either part with a register, every other byte is kept, and the chip is idle
+ * with PEL 1. */
 static int gate_17_is_sent(const struct kit *kit)
 {
     static uint8_t wanted[CREP_ARRAY];
@@ -602,22 +640,22 @@ static int rpel_unlocks(const struct kit *kit)
 }
 
 /* One sending with rubbish before it: the refusal that is given where it counts no events and writes none; else 255. */
-static uint8_t refusal_of(const struct kit *kit, uint8_t select, uint16_t gate, const uint8_t *record, size_t n,
-                          size_t room)
+static uint8_t refusal_of(const struct kit *kit, uint8_t part, uint8_t select, uint16_t gate, const uint8_t *record,
+                          size_t n, size_t room)
 {
     static uint8_t before[CREP_SEND + 1];
-    uint16_t events = 1;
+    uint16_t events = 1, wanted = part == CREP_X24F129 ? 636 : 713;
     uint8_t refusal;
 
     memset(before, 0x77, sizeof before);
     memset(bench.trace, 0x77, sizeof before);
-    refusal = kit->send(select, gate, record, n, bench.trace, room, &events);
+    refusal = kit->send(part, select, gate, record, n, bench.trace, room, &events);
     if (refusal == 0)
-        return events == 713 && bench.trace[713] == 0x77 ? 0 : 255;
+        return events == wanted && bench.trace[wanted - 1] == 8 && bench.trace[wanted] == 0x77 ? 0 : 255;
     return events == 0 && memcmp(bench.trace, before, sizeof before) == 0 ? refusal : 255;
 }
 
-/* 7, 12 (free too), 13, 14, 15, 16, 17, each at its edge and before the next. */
+/* 7, 12 (free too), 13, 14, 15, 16, 3, 17, each at its edge and before the next. */
 static int sender_refuses(const struct kit *kit)
 {
     static uint8_t empty[32], bad[33];
@@ -628,17 +666,33 @@ static int sender_refuses(const struct kit *kit)
     memcpy(bad, north, 32);
     bad[29] = 0x21;
     bad[4] = 0xa4;
-    if (refusal_of(kit, 8, 512, bad, 31, 712) != 7 || refusal_of(kit, 8, 512, bad, 33, 712) != 7
-        || refusal_of(kit, 0, 0, empty, 31, 713) != 7 || refusal_of(kit, 0, 0, empty, 32, 713) != 12
-        || refusal_of(kit, 8, 512, bad, 32, 712) != 12)
+    if (refusal_of(kit, 3, 8, 512, bad, 31, 712) != 7 || refusal_of(kit, 3, 8, 512, bad, 33, 712) != 7
+        || refusal_of(kit, 0, 0, 0, empty, 31, 713) != 7 || refusal_of(kit, 0, 0, 0, empty, 32, 713) != 12
+        || refusal_of(kit, 3, 8, 512, bad, 32, 712) != 12)
         return 0;
     bad[4] = 0xa5;
-    if (refusal_of(kit, 8, 512, bad, 32, 712) != 13)
+    if (refusal_of(kit, 3, 8, 512, bad, 32, 712) != 13)
         return 0;
     bad[31]++;
-    return refusal_of(kit, 8, 512, bad, 32, 712) == 14 && refusal_of(kit, 8, 512, north, 32, 712) == 15
-        && refusal_of(kit, 8, 511, north, 32, 712) == 16 && refusal_of(kit, 7, 511, north, 32, 712) == 17
-        && refusal_of(kit, 7, 511, north, 32, 713) == 0 && refusal_of(kit, 7, 511, north, 32, 714) == 0;
+    return refusal_of(kit, 3, 8, 512, bad, 32, 712) == 14 && refusal_of(kit, 3, 8, 512, north, 32, 712) == 15
+        && refusal_of(kit, 3, 8, 511, north, 32, 712) == 16 && refusal_of(kit, 3, 7, 511, north, 32, 712) == 3
+        && refusal_of(kit, 3, 7, 511, north, 32, 714) == 3 && refusal_of(kit, 255, 7, 511, north, 32, 0) == 3;
+}
+
+/* The buffer: 713 events, and 636 for an X24F129; one short is 17. */
+static int sender_needs_room(const struct kit *kit)
+{
+    uint8_t part;
+    int good = open_send(kit, 0, 0, 0) == 0;
+
+    for (part = 0; part < 3; part++) {
+        size_t n = part == CREP_X24F129 ? 636 : 713;
+
+        good = good && refusal_of(kit, part, 7, 511, north, 32, n - 1) == 17
+            && refusal_of(kit, part, 7, 511, north, 32, 0) == 17 && refusal_of(kit, part, 7, 511, north, 32, n) == 0
+            && refusal_of(kit, part, 7, 511, north, 32, n + 1) == 0;
+    }
+    return good;
 }
 
 /* ---- The map of free sectors ---- */
@@ -815,21 +869,26 @@ static int map_refuses(const struct kit *kit)
 }
 
 /* Gates are added where the map says until all 512 are there; then none is free and the sender refuses. */
-static int gates_are_added(const struct kit *kit)
+static int all_gates_are_added(const struct kit *kit, uint8_t part)
 {
     uint16_t sector, events;
     unsigned k;
-    int good = open_map(kit, 1, 0xff)
+    int good = open_map(kit, part, 0xff)
         && kit->record_write(north, sizeof north, 0, 1200, (const uint8_t *)"NORTH", 5) == 0;
 
     for (k = 0; good && k < 512; k++) {
         good = kit->map_first(map, CREP_MAP, &sector) == 0 && sector == k
-            && kit->send(0, sector, north, sizeof north, bench.trace, CREP_TRACE, &events) == 0;
-        bench.wire.len = CREP_SEND;
-        good = good && mapped_note() == 0 && CREP_NOTE(bench.answers[711]) == 1;
+            && kit->send(part, 0, sector, north, sizeof north, bench.trace, CREP_TRACE, &events) == 0;
+        bench.wire.len = good ? events : 0;
+        good = good && mapped_note() == 0 && CREP_NOTE(bench.answers[events - 2]) == 1;
     }
     return good && first_free(kit) == 512 && kit->map_first(map, CREP_MAP, &sector) == 0
-        && kit->send(0, sector, north, sizeof north, bench.trace, CREP_TRACE, &events) == 15;
+        && kit->send(part, 0, sector, north, sizeof north, bench.trace, CREP_TRACE, &events) == 15;
+}
+
+static int gates_are_added(const struct kit *kit)
+{
+    return all_gates_are_added(kit, CREP_X24F128) && all_gates_are_added(kit, CREP_X24F129);
 }
 
 /* ---- Power lost in the cycle ---- */
@@ -899,9 +958,9 @@ static int stop_makes_it_wait(const struct kit *kit)
 }
 
 /* A program-done writes it, ends busy and changes nothing else; a second one does nothing. */
-static int done_writes(const struct kit *kit)
+static int done_writes_on(const struct kit *kit, uint8_t part)
 {
-    int good = begin(kit, 1, 0x3fe0, 32) == 1;
+    int good = begin(kit, part, 0x3fe0, 32) == 1;
     struct crep_chip chip = bench.chip;
 
     good = good && note_of(8) == 0 && nothing_waits(&bench.chip);
@@ -910,6 +969,11 @@ static int done_writes(const struct kit *kit)
     good = good && memcmp(&chip, &bench.chip, sizeof chip) == 0 && note_of(8) == 0
         && memcmp(&chip, &bench.chip, sizeof chip) == 0;
     return good && top_holds(0xffffffff);
+}
+
+static int done_writes(const struct kit *kit)
+{
+    return done_writes_on(kit, 0) && done_writes_on(kit, 1) && done_writes_on(kit, 2);
 }
 
 /* A power-up with these choices; whether it says line high, note 0, and leaves a chip as new but for its spoil byte. */
@@ -928,16 +992,17 @@ static int cut_off(const struct kit *kit, uint32_t choices)
 static int three_cuts(const struct kit *kit)
 {
     static const uint32_t written[] = { 0xffffffff, 0, 0x0000ffff };
-    uint8_t event;
+    uint8_t event, part;
     int i, good = 1;
 
-    for (event = 9; event < 12; event++) {
-        good = good && begin(kit, 1, 0x3fe0, 32) == 1 && note_of(event) == 0 && nothing_waits(&bench.chip)
-            && !bench.chip.busy && !bench.chip.pel && top_holds(written[event - 9]);
-        good = good && begin(kit, 1, 0x3fe0, 31) == 5 && note_of(event) == 0;
-        for (i = 0; i < 32; i++)
-            good = good && bench.array[0x3fe0 + i] == (written[event - 9] >> i & 1 ? 0x3c : 0x77);
-    }
+    for (part = 1; part < 3; part++)
+        for (event = 9; event < 12; event++) {
+            good = good && begin(kit, part, 0x3fe0, 32) == 1 && note_of(event) == 0 && nothing_waits(&bench.chip)
+                && !bench.chip.busy && !bench.chip.pel && top_holds(written[event - 9]);
+            good = good && begin(kit, part, 0x3fe0, 31) == 5 && note_of(event) == 0;
+            for (i = 0; i < 32; i++)
+                good = good && bench.array[0x3fe0 + i] == (written[event - 9] >> i & 1 ? 0x3c : 0x77);
+        }
     return good;
 }
 
@@ -1128,7 +1193,7 @@ static int sender_is_cut_off(const struct kit *kit)
     int k, good = 1;
 
     for (i = 0; i < sizeof choices / sizeof choices[0]; i++) {
-        good = good && open_send(kit, (uint8_t)(i & 1), 0, 511) == 0;
+        good = good && open_send(kit, (uint8_t)(i % 3), 0, 511) == 0;
         memset(bench.array, 0x77, CREP_ARRAY);
         bench.wire.len--;
         good = good && last_note() == 1 && array_is(0x77) && cut_off(kit, choices[i]);
@@ -1249,7 +1314,7 @@ static int label_taken(const struct kit *kit, const uint8_t *label, uint8_t n)
         return -1;
     memcpy(record, wanted, 32);
     refusals[1] = kit->record_read(record, 32, &closed, &opened, &travel, &length, &empty);
-    refusals[2] = refusal_of(kit, 0, 17, record, 32, 713);
+    refusals[2] = refusal_of(kit, 0, 0, 17, record, 32, 713);
     refusals[3] = kit->record_limits(record, 32, 0, 1200);
     if (memcmp(record, wanted, 32) != 0)
         return -1;
@@ -1302,7 +1367,7 @@ static int shows(const struct kit *kit, const uint8_t *record, size_t n)
         && from_record == (n > 0) && start == (n > 0 ? 6 : 0) && len == (n > 0 ? n : sizeof standard);
 }
 
-/* Porton Nunez is written, sent to gate 17 of either part, read there and shown whole. */
+/* Porton Nunez is written, sent to gate 17 of each part, read there and shown whole. */
 static int accents_are_sent(const struct kit *kit)
 {
     static uint8_t wanted[CREP_ARRAY];
@@ -1311,14 +1376,15 @@ static int accents_are_sent(const struct kit *kit)
     uint16_t events;
     int good = 1;
 
-    for (part = 0; part < 2; part++) {
+    for (part = 0; part < 3; part++) {
         open_bench(kit, part);
         good = good && kit->record_write(record, 32, 0, 1200, porton, sizeof porton) == 0
-            && kit->send(0, 17, record, 32, bench.trace, CREP_SEND, &events) == 0;
+            && kit->send(part, 0, 17, record, 32, bench.trace, CREP_SEND, &events) == 0;
         bench.wire.len = good ? events : 0;
         memset(wanted, 0xff, sizeof wanted);
         lay_out(wanted + 0x220, porton, sizeof porton);
-        good = good && notes_are(3, 1) && memcmp(bench.array, wanted, sizeof wanted) == 0
+        good = good && (part == CREP_X24F129 ? note_634_is(1) : notes_are(3, 1))
+            && memcmp(bench.array, wanted, sizeof wanted) == 0
             && kit->record_read(bench.array + 0x220, 32, &closed, &opened, &travel, &length, &empty) == 0
             && closed == 0 && opened == 1200 && travel == 1200 && length == sizeof porton && !empty
             && shows(kit, bench.array + 0x220, sizeof porton);
@@ -1373,6 +1439,263 @@ static int limits_keep_accents(const struct kit *kit)
         && kit->record_limits(record, 32, 0, 1200) == 0 && memcmp(record, wanted, 32) == 0;
 }
 
+/* ---- The part without a register ---- */
+
+/* An X24F129 with spoil byte 3Ch and these bits on an array of 77h. */
+static void open_bare(const struct kit *kit, uint8_t bits)
+{
+    open_bench(kit, CREP_X24F129);
+    put_bits(bits);
+    bench.chip.spoil = 0x3c;
+    memset(bench.array, 0x77, CREP_ARRAY);
+}
+
+/* n bytes 00h to an address of such a chip, with one level of the pin in the STOP's own sample and another before it.
+ * The note, where 1 and 5 alone begin a cycle and clear RPEL, the mark is clear, all other bits stay, no byte is
+ * written before the program-done, and after it the sector holds 00h or 3Ch as the note says, with 77h beside it; else
+ * -1. */
+static int bare_write(const struct kit *kit, uint8_t bits, unsigned address, size_t n, int pin, int at_stop)
+{
+    static const uint8_t bytes[64];
+    static uint8_t wanted[CREP_ARRAY];
+    unsigned sector = address % 0x4000 / 32 * 32;
+    const struct crep_chip *chip = &bench.chip;
+    int note, cycle, good;
+
+    open_bare(kit, bits);
+    bench.wire.pin = pin;
+    wire_write(&bench.wire, 0, address, bytes, n);
+    bench.trace[bench.wire.len - 1] = (uint8_t)(3 | at_stop << 2);
+    note = last_note();
+    cycle = note == 1 || note == 5;
+    memset(wanted, 0x77, CREP_ARRAY);
+    if (cycle)
+        memset(wanted + sector, note == 1 ? 0x00 : 0x3c, 32);
+    good = array_is(0x77) && chip->busy == cycle && counter_of(chip) == sector + (address + n) % 32 && !chip->mark
+        && chip->ppen == bits >> 7 && chip->bl == (bits >> 3 & 3) && chip->rpel == (cycle ? 0 : bits >> 2 & 1)
+        && chip->pel == (bits >> 1 & 1) && note_of(8) == 0 && !chip->busy
+        && memcmp(bench.array, wanted, CREP_ARRAY) == 0;
+    return good ? note : -1;
+}
+
+/* 3000h and above are locked with the pin high, and nothing is with the pin low. */
+static int pin_locks_from_3000(const struct kit *kit)
+{
+    return bare_write(kit, 0, 0x3000, 32, 1, 1) == 4 && bare_write(kit, 0, 0x301f, 32, 1, 1) == 4
+        && bare_write(kit, 0, 0x3fff, 32, 1, 1) == 4 && bare_write(kit, 0, 0x2fff, 32, 1, 1) == 1
+        && bare_write(kit, 0, 0x2000, 32, 1, 1) == 1 && bare_write(kit, 0, 0x0000, 32, 1, 1) == 1
+        && bare_write(kit, 0, 0x3000, 32, 0, 0) == 1 && bare_write(kit, 0, 0x3fff, 32, 0, 0) == 1
+        && bare_write(kit, 0, 0x2fff, 32, 0, 0) == 1 && bare_write(kit, 0, 0x7000, 32, 1, 1) == 4;
+}
+
+/* The STOP's own sample counts: the pin high in it alone locks, low in it alone does not. */
+static int pin_of_its_own_sample(const struct kit *kit)
+{
+    return bare_write(kit, 0, 0x3000, 32, 0, 1) == 4 && bare_write(kit, 0, 0x3000, 32, 1, 0) == 1
+        && bare_write(kit, 0, 0x3fe0, 31, 0, 1) == 4 && bare_write(kit, 0, 0x3fe0, 31, 1, 0) == 5;
+}
+
+/* Any count but 32 is note 5, and where it is locked note 4, which spoils nothing; no data byte is nothing. */
+static int bare_counts(const struct kit *kit)
+{
+    static const size_t counts[] = { 1, 2, 31, 33, 64 };
+    size_t i;
+    int good = bare_write(kit, 0, 0x3000, 0, 0, 0) == 0 && bare_write(kit, 0, 0x3000, 0, 1, 1) == 0;
+
+    for (i = 0; i < sizeof counts / sizeof counts[0]; i++)
+        good = good && bare_write(kit, 0, 0x3000, counts[i], 1, 1) == 4
+            && bare_write(kit, 0, 0x3000, counts[i], 0, 0) == 5 && bare_write(kit, 0, 0x2fff, counts[i], 1, 1) == 5
+            && bare_write(kit, 0, 0x0106, counts[i], 0, 0) == 5;
+    return good;
+}
+
+/* FFFFh is 3FFFh: a register byte sent there spoils sector 511, or is note 4; a read gives the array's last byte. */
+static int ffff_is_3fff(const struct kit *kit)
+{
+    size_t end;
+    int good = bare_write(kit, 0, 0xffff, 1, 0, 0) == 5 && bare_write(kit, 0, 0xffff, 32, 0, 0) == 1
+        && bare_write(kit, 0, 0xffff, 1, 1, 1) == 4 && bare_write(kit, 0x9f, 0xffff, 1, 0, 0) == 5
+        && bare_write(kit, 0x9f, 0xffff, 0, 0, 0) == 0;
+
+    open_bare(kit, 0x9f);
+    bench.array[0x3fff] = 0x5a;
+    bench.array[0x0000] = 0xc3;
+    wire_read(&bench.wire, 0, 0xffff, 2);
+    end = bench.wire.len - 3;
+    return good && last_note() == 0 && byte_at(end - 36) == 0x5a && byte_at(end - 18) == 0xc3
+        && counter_of(&bench.chip) == 1 && !bench.chip.mark;
+}
+
+/* There is no PEL: right after a power-up all 35 bytes of a message are acknowledged, and stored. */
+static int data_without_pel(const struct kit *kit)
+{
+    static const uint8_t bytes[32];
+    int i, good;
+
+    open_bare(kit, 0);
+    wire_event(&bench.wire, 9);
+    wire_write(&bench.wire, 0, 0x0100, bytes, sizeof bytes);
+    good = last_note() == 1 && note_of(8) == 0 && bench.array[0x100] == 0x00 && !bench.chip.pel;
+    for (i = 0; i < 35; i++)
+        good = good && CREP_LINE(bench.answers[20 + 18 * i]) == 0;
+    return good;
+}
+
+/* Whatever PPEN, BL, RPEL, PEL and the mark are, the same is locked. */
+static int bits_lock_nothing(const struct kit *kit)
+{
+    int bits, good = 1;
+
+    for (bits = 0; bits < 256; bits++)
+        good = good && bare_write(kit, (uint8_t)(bits & 0x9f), 0x0000, 32, bits & 1, bits & 1) == 1
+            && bare_write(kit, (uint8_t)(bits & 0x9f), 0x3000, 32, 0, 0) == 1
+            && bare_write(kit, (uint8_t)(bits & 0x9f), 0x3000, 32, 1, 1) == 4
+            && bare_write(kit, (uint8_t)(bits & 0x9f), 0x2fe0, 31, 1, 1) == 5;
+    return good;
+}
+
+/* A mark that a caller sets in mid-message changes nothing and stays: data goes to the array, 32 bytes are a store. */
+static int mark_is_no_register(const struct kit *kit)
+{
+    int i, good;
+
+    open_bare(kit, 0x9e);
+    wire_address(&bench.wire, 0, 0x0100);
+    good = last_note() == 0;
+    bench.chip.mark = 1;
+    wire_open(&bench.wire, bench.trace, sizeof bench.trace);
+    for (i = 0; i < 32; i++)
+        wire_send(&bench.wire, 0x02);
+    wire_stop(&bench.wire);
+    good = good && last_note() == 1 && bench.chip.mark && counter_of(&bench.chip) == 0x100 && note_of(8) == 0
+        && bench.chip.mark && bench.array[0x11f] == 0x02 && bench.chip.bl == 3 && bench.chip.pel;
+    return good && note_of(9) == 0 && !bench.chip.mark && !bench.chip.pel && bench.chip.ppen && bench.chip.bl == 3;
+}
+
+/* A current read with the mark: bytes of the array, the counter goes on, the mark stays. */
+static int mark_reads_the_array(const struct kit *kit)
+{
+    size_t at;
+
+    open_bare(kit, 0x9f);
+    bench.array[0x3fff] = 0x5a;
+    bench.array[0x0000] = 0xc3;
+    bench.chip.counter_high = 0x3f;
+    bench.chip.counter_low = 0xff;
+    wire_start(&bench.wire);
+    wire_send(&bench.wire, 0xa1);
+    at = bench.wire.len;
+    wire_receive(&bench.wire, 1);
+    wire_receive(&bench.wire, 0);
+    return last_note() == 0 && byte_at(at) == 0x5a && byte_at(at + 18) == 0xc3 && counter_of(&bench.chip) == 1
+        && bench.chip.mark && bench.chip.phase == CREP_PHASE_STANDBY;
+}
+
+/* A cycle that began with the pin low ends with the pin high, by a program-done and by each power-up. */
+static int begun_unlocked_ends(const struct kit *kit)
+{
+    static const uint32_t written[] = { 0xffffffff, 0xffffffff, 0, 0x0000ffff };
+    uint8_t event, pin;
+    int good = 1;
+
+    for (event = 8; event < 12; event++) {
+        good = good && begin(kit, CREP_X24F129, 0x3fe0, 32) == 1;
+        for (pin = 7; pin > 3; pin--)
+            good = good && note_of(pin) == 0;
+        good = good && note_of(event) == 0 && top_holds(written[event - 8]);
+    }
+    return good;
+}
+
+/* PPEN and BL that wait in a caller's busy chip are taken as on the other parts, by 8, 9 and 11 and not by 10. */
+static int bare_wait_is_taken(const struct kit *kit)
+{
+    uint8_t event;
+    int good = 1;
+
+    for (event = 8; event < 12; event++) {
+        open_bare(kit, 0x0f);
+        bench.chip.busy = bench.chip.wait_ppen = 1;
+        bench.chip.wait = bench.chip.wait_bl = 2;
+        good = good && note_of(event) == 0 && !bench.chip.busy && nothing_waits(&bench.chip) && array_is(0x77)
+            && bench.chip.ppen == (event != 10) && bench.chip.bl == (event != 10 ? 2 : 1)
+            && bench.chip.pel == (event == 8) && bench.chip.rpel == (event == 8) && bench.chip.mark == (event == 8);
+    }
+    return good;
+}
+
+/* Part 2 is in range and part 3 is not, for every call that takes a chip and for a new one; BL 4 is not either. */
+static int part_3_is_refused(const struct kit *kit)
+{
+    struct crep_chip chip;
+    int good = kit->make(&chip, CREP_X24F129, 7) == 0 && chip.part == 2 && chip.select == 7
+        && kit->make(&chip, CREP_X24F129, 8) == 3 && chip.part == CREP_X24F128 && kit->make(&chip, 3, 0) == 3
+        && chip.part == CREP_X24F128 && kit->make(&chip, 255, 0) == 3 && chip.part == CREP_X24F128;
+
+    open_bare(kit, 0x9f);
+    good = good && wait_refusal(kit, &bench.chip) == 0;
+    bench.chip.part = 3;
+    good = good && wait_refusal(kit, &bench.chip) == 2;
+    bench.chip.part = 255;
+    good = good && wait_refusal(kit, &bench.chip) == 2;
+    bench.chip.part = CREP_X24F129;
+    bench.chip.bl = 4;
+    return good && wait_refusal(kit, &bench.chip) == 2;
+}
+
+/* Gate 17 for an X24F129: the record's message alone and 8, the pin low; PEL stays as it is, RPEL 1 does no harm. */
+static int gate_17_without_pel(const struct kit *kit)
+{
+    static uint8_t spelling[636], wanted[CREP_ARRAY];
+    struct wire wire;
+    uint8_t bits;
+    int good = 1;
+
+    for (bits = 0; bits < 0x20; bits++) {
+        good = good && open_send(kit, CREP_X24F129, 7, 17) == 0;
+        put_bits(bits);
+        wire_open(&wire, spelling, sizeof spelling);
+        wire_write(&wire, 7, 0x0220, north, sizeof north);
+        wire_event(&wire, 8);
+        memset(wanted, 0xff, sizeof wanted);
+        memcpy(wanted + 0x220, north, sizeof north);
+        good = good && wire.len == 636 && memcmp(bench.trace, spelling, sizeof spelling) == 0 && note_634_is(1)
+            && memcmp(bench.array, wanted, sizeof wanted) == 0 && bench.chip.pel == (bits >> 1 & 1)
+            && bench.chip.bl == (bits >> 3 & 3) && !bench.chip.rpel && !bench.chip.mark && !bench.chip.busy;
+    }
+    return good;
+}
+
+/* Every gate from 384 on is sent too: the pin is low. */
+static int bare_gates_are_sent(const struct kit *kit)
+{
+    uint16_t gate;
+    int good = 1;
+
+    for (gate = 383; gate < 512; gate++)
+        good = good && open_send(kit, CREP_X24F129, 0, gate) == 0 && note_634_is(1)
+            && memcmp(bench.array + 32 * gate, north, sizeof north) == 0;
+    return good;
+}
+
+/* What is sent for a part with a register spoils sector 511 of an X24F129, and the record is not stored. */
+static int sent_for_another_part(const struct kit *kit)
+{
+    static uint8_t wanted[CREP_ARRAY];
+    uint8_t part;
+    int good = 1;
+
+    for (part = 0; part < 2; part++) {
+        good = good && open_send(kit, part, 0, 17) == 0;
+        bench.chip.part = CREP_X24F129;
+        bench.chip.spoil = 0x3c;
+        memset(wanted, 0xff, sizeof wanted);
+        memset(wanted + 0x3fe0, 0x3c, 32);
+        good = good && notes_are(5, 0) && memcmp(bench.array, wanted, sizeof wanted) == 0 && !bench.chip.busy;
+    }
+    return good;
+}
+
 /* ---- The header ---- */
 
 /* CREP_VERSION_NUMBER is CREP_VERSION by its own rule; each refusal has a text. */
@@ -1381,10 +1704,10 @@ static int header_agrees(const struct kit *kit)
     int first, second, third;
 
     (void)kit;
-    return strcmp(CREP_VERSION, "0.8.0") == 0 && sscanf(CREP_VERSION, "%d.%d.%d", &first, &second, &third) == 3
+    return strcmp(CREP_VERSION, "0.9.0") == 0 && sscanf(CREP_VERSION, "%d.%d.%d", &first, &second, &third) == 3
         && CREP_VERSION_NUMBER == 10000 * first + 100 * second + third
         && strcmp(crep_refusal_text(6), "an event byte above 11") == 0
-        && strcmp(crep_refusal_text(17), "buffer shorter than 713 events") == 0
+        && strcmp(crep_refusal_text(17), "buffer shorter than 713 events, X24F129: 636") == 0
         && strcmp(crep_refusal_text(18), "map is not 64 bytes") == 0
         && strcmp(crep_refusal_text(19), "no such refusal") == 0;
 }
@@ -1405,7 +1728,7 @@ static const struct {
     { "10  read at 3FFFh, then 0000h", case_10 },
     { "11  stopped with SCL low: 10 pulses", case_11 },
     { "12  stopped with SCL high: 9 pulses", case_12 },
-    { "13  PEL set: note 3 at 77 on both parts", case_13 },
+    { "13  PEL set: note 3 at 77 on both parts that have it", case_13 },
     { "-   the standard chip: an X24F128 with select 0", standard_chip },
     { "-   short loads that leave a sector: locked, empty", short_loads_that_stay },
     { "-   no spoil on an X24128, nor by a register byte", what_never_spoils },
@@ -1420,6 +1743,7 @@ static const struct {
     { "-   BL 1: gate 384 stays, note 4; 383 is sent", locked_gates_stay },
     { "-   RPEL 1: the sender unlocks and stores nothing", rpel_unlocks },
     { "-   what the sender refuses, and in which order", sender_refuses },
+    { "-   713 events of room, 636 for an X24F129", sender_needs_room },
     { "-   first free: none, all, and each alone", map_finds },
     { "-   one byte that is not FFh takes its sector", one_byte_is_used },
     { "-   the map follows stores and spoils, FFh frees", map_follows },
@@ -1446,6 +1770,21 @@ static const struct {
     { "-   what is trimmed is 20h alone", accents_are_shown },
     { "-   padding is 20h alone", padding_is_20h },
     { "-   new limits keep a label with accents", limits_keep_accents },
+    { "-   X24F129: pin high locks 3000h and not 2FFFh", pin_locks_from_3000 },
+    { "-   X24F129: the pin of the STOP's own sample", pin_of_its_own_sample },
+    { "-   X24F129: short loads, note 4 before note 5", bare_counts },
+    { "-   X24F129: FFFFh is 3FFFh", ffff_is_3fff },
+    { "-   X24F129: data is acknowledged without PEL", data_without_pel },
+    { "-   X24F129: no bit of a register locks", bits_lock_nothing },
+    { "-   X24F129: a mark makes no register byte", mark_is_no_register },
+    { "-   X24F129: a read with the mark reads the array", mark_reads_the_array },
+    { "-   X24F129: begun with the pin low, it ends", begun_unlocked_ends },
+    { "-   X24F129: a waiting register byte is taken", bare_wait_is_taken },
+    { "-   X24F129: demand 3 by the pin, 500 noises", demand_3_by_the_pin },
+    { "-   part 2 is taken, 3 refused; BL 4 refused", part_3_is_refused },
+    { "-   gate 17 of an X24F129: 636 events, note at 634", gate_17_without_pel },
+    { "-   gates 383 to 511 of an X24F129 are sent", bare_gates_are_sent },
+    { "-   713 events to an X24F129 spoil sector 511", sent_for_another_part },
     { "-   the header's version and refusal texts", header_agrees },
 };
 

@@ -1,5 +1,5 @@
 /*
- * Compares the library with the independent model: random and structured traces on both parts, chips in and out of
+ * Compares the library with the independent model: random and structured traces on all parts, chips in and out of
  * range, cycles that are cut off, all refusals, recoveries, records, names, sendings, maps. Stops at the first
  * difference and prints it in full.
  *
@@ -29,6 +29,7 @@ static const struct {
     { compare_chips, 60 },
     { compare_power_ups, 20 },
     { compare_traces, 4 },
+    { compare_twins, 2 },
     { compare_recovery, 12 },
     { compare_record_write, 30 },
     { compare_record_limits, 30 },

@@ -10,6 +10,7 @@ int compare_events(struct chance *chance);              /* a trace, event by eve
 int compare_chips(struct chance *chance);               /* one event on a random chip, in range or not */
 int compare_power_ups(struct chance *chance);           /* a power-up with any choices on a random chip, likewise */
 int compare_traces(struct chance *chance);              /* traces that ask to be refused */
+int compare_twins(struct chance *chance);               /* an X24F129 beside one with another register and mark */
 int compare_recovery(struct chance *chance);
 int compare_record_write(struct chance *chance);
 int compare_record_limits(struct chance *chance);
@@ -24,7 +25,7 @@ int compare_map_power_ups(struct chance *chance);       /* a power-up with any c
 int compare_map_traces(struct chance *chance);          /* traces with a map that ask to be refused */
 int compare_map_send(struct chance *chance);            /* a record sent to the first free sector */
 
-/* Makes a new chip of either part, with any select. */
+/* Makes a new chip of any part, with any select. */
 void new_chip(struct chance *chance, struct crep_chip *chip);
 
 #endif

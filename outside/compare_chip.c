@@ -1,5 +1,5 @@
-/* Compares new chips, events, power-ups, traces and recoveries, and holds the library to what the notes and the request
- * for power cuts say. */
+/* Compares new chips, events, power-ups, traces and recoveries, and holds the library to what the notes and the
+ * requests for power cuts and for the part without a register say. */
 #include <inttypes.h>
 #include <stdio.h>
 #include <string.h>
@@ -191,6 +191,37 @@ static int as_held(void)
     return 0;
 }
 
+/* ---- What the request for the part without a register says ---- */
+
+/* A STOP that ends a load: the line rises with SCL high and one bit of a data byte received. */
+static int ends_a_load(const struct crep_chip *before, uint8_t event)
+{
+    return before->phase == CREP_PHASE_DATA && before->bits == 1 && before->count > 0 && before->scl && !before->line
+        && (event | CREP_PIN) == (CREP_SCL | CREP_SDA | CREP_PIN);
+}
+
+/* The fall that takes a data byte. */
+static int takes_data(const struct crep_chip *before, uint8_t event)
+{
+    return before->phase == CREP_PHASE_DATA && before->bits == 8 && before->scl && event < 8 && !(event & CREP_SCL);
+}
+
+/* An X24F129: the end of a load is note 4 from 3000h on with the pin high in its own sample, whatever the count, else 1
+ * for 32 bytes and 5 for others; no other event has these, and none 2, 3 or 6. Data is acknowledged. No event sets the
+ * mark. */
+static int as_asked(const struct crep_chip *before, uint8_t event, int note)
+{
+    int locked = (event & CREP_PIN) && before->counter_high >= 0x30;
+
+    if (library.chip.mark > before->mark)
+        return 0;
+    if (!before->busy && takes_data(before, event) && library.chip.phase != CREP_PHASE_ACK_BYTE)
+        return 0;
+    if (!before->busy && ends_a_load(before, event))
+        return note == (locked ? CREP_NOTE_LOCKED : before->count == 32 ? CREP_NOTE_STORED : CREP_NOTE_NOT_32);
+    return note == CREP_NOTE_NONE || note == CREP_NOTE_DROPPED;
+}
+
 /* ---- One event ---- */
 
 static void one_event(struct side *side, size_t array_len, uint8_t event)
@@ -198,7 +229,32 @@ static void one_event(struct side *side, size_t array_len, uint8_t event)
     side->refusal = side->kit->event(&side->chip, side->array, array_len, event, &side->number);
 }
 
-static void count_event(const struct crep_chip *before)
+/* Whether an event led from one phase to another. */
+static int went(const struct crep_chip *before, int from, int to)
+{
+    return before->phase == from && model.chip.phase == to;
+}
+
+/* On an X24F129: the STOPs of its loads, and where another part would look at the register or at the mark. */
+static void count_bare(const struct crep_chip *before, uint8_t event, int note)
+{
+    static const unsigned first_locked[4] = { 0x4000, 0x3000, 0x2000, 0x0000 };
+    unsigned counter = before->counter_high * 256u + before->counter_low;
+
+    if (note == CREP_NOTE_STORED || note == CREP_NOTE_LOCKED || note == CREP_NOTE_NOT_32) {
+        tally.stops[4 * (before->count != 32) + 2 * ((event & CREP_PIN) != 0) + (counter >= 0x3000)]++;
+        tally.unread[5] += before->mark;
+        tally.unread[6] += note != CREP_NOTE_LOCKED && counter / 32 * 32 >= first_locked[before->bl];
+    }
+    tally.unread[0] += went(before, CREP_PHASE_SECOND, CREP_PHASE_ACK_BYTE) && before->high == 0xff
+        && before->byte == 0xff;
+    tally.unread[1] += went(before, CREP_PHASE_DATA, CREP_PHASE_ACK_BYTE) && !before->pel;
+    tally.unread[2] += went(before, CREP_PHASE_DATA, CREP_PHASE_ACK_BYTE) && before->mark;
+    tally.unread[3] += went(before, CREP_PHASE_ACK_READ, CREP_PHASE_SENDING) && before->mark;
+    tally.unread[4] += went(before, CREP_PHASE_SENDING, CREP_PHASE_WAITING) && before->mark;
+}
+
+static void count_event(const struct crep_chip *before, uint8_t event)
 {
     int note = CREP_NOTE(model.number);
 
@@ -211,8 +267,10 @@ static void count_event(const struct crep_chip *before)
     }
     if (note == CREP_NOTE_NOT_32)
         tally.short_loads[before->spoil != 0xff]++;
-    if (note == CREP_NOTE_LOCKED && before->part == CREP_X24F128 && before->count != 32)
+    if (note == CREP_NOTE_LOCKED && before->part != CREP_X24128 && before->count != 32)
         tally.short_loads[2]++;
+    if (before->part == CREP_X24F129 && model.refusal == 0)
+        count_bare(before, event, note);
 }
 
 static int differ_event(const struct crep_chip *before, size_t array_len, uint8_t event, size_t at)
@@ -241,9 +299,14 @@ static int compare_one(size_t array_len, uint8_t event, size_t at)
     one_event(&model, array_len, event);
     if (!agree())
         return differ_event(&before, array_len, event, at);
-    count_event(&before);
+    count_event(&before, event);
     if (model.refusal == 0)
         hold_event(&before, event, CREP_NOTE(model.number));
+    if (before.part == CREP_X24F129 && model.refusal == 0 && !as_asked(&before, event, CREP_NOTE(library.number))) {
+        differ_event(&before, array_len, event, at);
+        printf("    both sides break it: what an X24F129 does\n");
+        return 1;
+    }
     return 0;
 }
 
@@ -256,6 +319,8 @@ int compare_chips(struct chance *chance)
     stir_chip(chance, &chip);
     if (chance_once_in(chance, 3))
         stir_out_of_range(chance, &chip);
+    if (chance_once_in(chance, 4))
+        event |= CREP_SCL | CREP_SDA;
     if (chance_once_in(chance, chip.busy ? 2 : 20))
         event = stir_end(chance);
     if (chance_once_in(chance, 20))
@@ -364,7 +429,7 @@ static int compare_run(const char *call, runner *run, const struct crep_chip *ch
 
 void new_chip(struct chance *chance, struct crep_chip *chip)
 {
-    uint8_t part = (uint8_t)chance_below(chance, 2), select = (uint8_t)chance_below(chance, 8);
+    uint8_t part = (uint8_t)chance_below(chance, 3), select = (uint8_t)chance_below(chance, 8);
 
     kit_model.make(chip, part, select);
 }
@@ -427,6 +492,51 @@ int compare_traces(struct chance *chance)
         stir_bad_event(chance, trace, n.trace);
     same_start(chance, &chip);
     return compare_run("crep_run", kit_library.run, &chip, &n);
+}
+
+/* The same chip with another register and another mark. */
+static struct crep_chip twin_of(struct chance *chance, struct crep_chip chip)
+{
+    uint8_t bits = (uint8_t)(1 + chance_below(chance, 63));
+
+    chip.ppen ^= bits >> 5;
+    chip.bl ^= bits >> 3 & 3;
+    chip.rpel ^= bits >> 2 & 1;
+    chip.pel ^= bits >> 1 & 1;
+    chip.mark ^= bits & 1;
+    return chip;
+}
+
+/* Nothing of an X24F129's register is read: the library runs a trace on it and on its twin, with the same answers, and
+ * chips that differ in register and mark alone. */
+int compare_twins(struct chance *chance)
+{
+    struct lengths n = { CREP_ARRAY, chance_below(chance, 1000), 0 };
+    struct crep_chip chip, twin;
+    struct wire wire;
+
+    first_chip(chance, &chip);
+    chip.part = CREP_X24F129;
+    twin = twin_of(chance, chip);
+    wire_open(&wire, trace, n.trace);
+    stir_trace(chance, &wire, chip.select);
+    n.answers = n.trace;
+    same_start(chance, &chip);
+    model.chip = twin;
+    run_trace(&library, kit_library.run, &n);
+    run_trace(&model, kit_library.run, &n);
+    twin = model.chip;
+    model.chip.ppen = library.chip.ppen;
+    model.chip.bl = library.chip.bl;
+    model.chip.rpel = library.chip.rpel;
+    model.chip.pel = library.chip.pel;
+    model.chip.mark = library.chip.mark;
+    if (agree() && memcmp(library.answers, model.answers, n.answers) == 0) {
+        tally.twins[memcmp(&twin, &library.chip, sizeof twin) == 0]++;
+        return 0;
+    }
+    model.chip = twin;
+    return differ_run("crep_run on an X24F129 and, as the model, on its twin", &chip, &n);
 }
 
 /* ---- Recovery ---- */

@@ -371,11 +371,14 @@ static int compare_run(const struct lengths *n)
     return as_plain() && same_answers(&plain, n) ? 0 : differ("crep_map_run beside crep_run", &plain, n);
 }
 
+/* The end of a cycle is the first event at times. */
 static void spell(struct chance *chance, size_t len, int select)
 {
     struct wire wire;
 
     wire_open(&wire, trace, len);
+    if (chance_once_in(chance, 4))
+        wire_event(&wire, stir_end(chance));
     if (chance_once_in(chance, 3))
         stir_trace(chance, &wire, select);
     else
@@ -452,15 +455,15 @@ static void ready(struct chance *chance, struct crep_chip *chip)
 }
 
 /* Whether the sector is used now: a record was stored, and the end of its cycle wrote all of it or half. */
-static int added(void)
+static int added(const struct lengths *n)
 {
-    return CREP_NOTE(library.answers[CREP_SEND - 2]) == CREP_NOTE_STORED && trace[CREP_SEND - 1] != CREP_CUT_NONE;
+    return CREP_NOTE(library.answers[n->trace - 2]) == CREP_NOTE_STORED && trace[n->trace - 1] != CREP_CUT_NONE;
 }
 
 int compare_map_send(struct chance *chance)
 {
     static const uint8_t label[] = "NORTH";
-    struct lengths n = { CREP_ARRAY, CREP_MAP, CREP_SEND, CREP_SEND };
+    struct lengths n = { CREP_ARRAY, CREP_MAP, 0, 0 };
     struct crep_chip chip;
     uint8_t record[CREP_RECORD];
     uint16_t gate, next, events;
@@ -474,16 +477,17 @@ int compare_map_send(struct chance *chance)
     if (compare_first(CREP_MAP))
         return 1;
     gate = library.first;
-    if (kit_library.send(chip.select, gate, record, sizeof record, trace, sizeof trace, &events) != 0)
+    if (kit_library.send(chip.part, chip.select, gate, record, sizeof record, trace, sizeof trace, &events) != 0)
         return gate == CREP_NO_SECTOR ? 0 : differ("crep_send to the first free sector", &model, &n);
-    trace[CREP_SEND - 1] = stir_end(chance);
+    n.trace = n.answers = events;
+    trace[n.trace - 1] = stir_end(chance);
     if (compare_run(&n))
         return 1;
     if (!as_read())
         return differ("what a full reading finds: both sides break it", &plain, &n);
     do_first(&library, CREP_MAP);
     next = library.first;
-    if ((next > gate) != added() || next < gate)
+    if ((next > gate) != added(&n) || next < gate)
         return differ("the first free sector after a gate was added", &plain, &n);
     return 0;
 }

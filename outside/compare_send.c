@@ -13,11 +13,12 @@
 #define LONGEST (CREP_SEND + 64)        /* longest buffer lent for the events */
 #define MARGIN 16                       /* bytes past it that must stay */
 
-/* The last event of the first message, of the second, and the clocks that acknowledge: four bytes, then 35. */
-enum { FIRST_STOP = 76, SECOND_STOP = 711, FIRST_NINTH = 19, SECOND_NINTH = 96, BYTE = 18 };
+/* The message that sets PEL, 77 events, which is left out for an X24F129; in it and in the one with the record the
+ * first clock that acknowledges, and their last events. */
+enum { FIRST = 77, NINTH = 19, BYTE = 18, FIRST_STOP = 76, SECOND_STOP = 634 };
 
 struct order {
-    uint8_t select;
+    uint8_t part, select;
     uint16_t gate;
     size_t record_len, trace_len;
     uint8_t record[ROOM];
@@ -38,12 +39,24 @@ static struct side model = { .kit = &kit_model };
 
 /* ---- What is asked for ---- */
 
-/* Gates and selects that are good most times, at the edges of their range often. */
+/* The number of events is that of the part most times, else that of the other ones. */
+static size_t usual_length(struct chance *chance, uint8_t part)
+{
+    int turned = chance_once_in(chance, 5);
+
+    return (part == CREP_X24F129) != turned ? CREP_SEND_X24F129 : CREP_SEND;
+}
+
+/* Parts, gates and selects that are good most times, at the edges of their range often. */
 static void stir_send(struct chance *chance, struct order *o)
 {
     static const uint32_t gates[] = { 0, 1, 255, 256, 257, 383, 384, 510, 511, 511, 512, 513, 768, 1023, 65535 };
     static const uint32_t selects[] = { 7, 8, 8, 9, 15, 16, 128, 255 };
+    static const uint32_t parts[] = { 2, 3, 3, 3, 4, 128, 254, 255 };
 
+    o->part = (uint8_t)chance_below(chance, 3);
+    if (chance_once_in(chance, 8))
+        o->part = (uint8_t)chance_of(chance, parts, sizeof parts / sizeof parts[0]);
     o->gate = (uint16_t)chance_below(chance, 512);
     if (chance_once_in(chance, 2))
         o->gate = (uint16_t)chance_of(chance, gates, sizeof gates / sizeof gates[0]);
@@ -51,21 +64,23 @@ static void stir_send(struct chance *chance, struct order *o)
     if (chance_once_in(chance, 5))
         o->select = (uint8_t)chance_of(chance, selects, sizeof selects / sizeof selects[0]);
     o->record_len = stir_length(chance, CREP_RECORD, ROOM);
-    o->trace_len = stir_length(chance, CREP_SEND, LONGEST);
+    o->trace_len = stir_length(chance, usual_length(chance, o->part), LONGEST);
     chance_fill(chance, o->record, ROOM);
     stir_record(chance, o->record);
 }
 
-/* A chip that is idle in standby, as the request asks for it nine times in ten, or beside that. */
-static void standing_by(struct chance *chance, struct crep_chip *chip, uint8_t select)
+/* A chip that is idle in standby, as the request asks for it most times, or beside that. */
+static void standing_by(struct chance *chance, struct crep_chip *chip, const struct order *o)
 {
     stir_chip(chance, chip);
     chip->busy = 0;
     chip->phase = CREP_PHASE_STANDBY;
-    chip->rpel = chance_once_in(chance, 20);
+    if (!chance_once_in(chance, 5))
+        chip->part = o->part;
+    chip->rpel = chance_once_in(chance, chip->part == CREP_X24F129 ? 2 : 20);
     chip->line = !chance_once_in(chance, 20);
     if (!chance_once_in(chance, 20))
-        chip->select = select;
+        chip->select = o->select;
     if (!chance_once_in(chance, 20)) {
         chip->count = 0;
         memset(chip->places, 0, sizeof chip->places);
@@ -77,8 +92,8 @@ static void standing_by(struct chance *chance, struct crep_chip *chip, uint8_t s
 
 static void show_order(const struct order *o)
 {
-    printf("    select %d, gate %d, record of %zu bytes, buffer of %zu\n", o->select, o->gate, o->record_len,
-           o->trace_len);
+    printf("    part %d, select %d, gate %d, record of %zu bytes, buffer of %zu\n", o->part, o->select, o->gate,
+           o->record_len, o->trace_len);
     printf("    returned: library %d, model %d; events: library %d, model %d\n", library.refusal, model.refusal,
            library.events, model.events);
     show_bytes(stdout, o->record, ROOM);
@@ -111,29 +126,59 @@ static int differ_run(const char *what, const struct order *o, const struct crep
 
 /* ---- What the request says ---- */
 
-/* The chip for which it speaks. */
-static int as_asked(const struct order *o, const struct crep_chip *chip)
+/* Whether a part has no register. */
+static int bare(uint8_t part)
+{
+    return part == CREP_X24F129;
+}
+
+/* A chip for which it speaks, or one of a part for which the events are not. RPEL is not asked where it is not read. */
+static int standing(const struct order *o, const struct crep_chip *chip)
 {
     int i, loaded = chip->count;
 
     for (i = 0; i < 32; i++)
         loaded += chip->places[i] + chip->load[i];
-    return chip->select == o->select && !chip->rpel && chip->line && !loaded;
+    return chip->select == o->select && (bare(chip->part) || !chip->rpel) && chip->line && !loaded;
 }
 
-/* Notes 3 and `last` at the ends of the two messages, 0 elsewhere; the line low in each of the 39 ninth clocks. */
-static int answered(const uint8_t *answers, int last)
+/* The events are the same for both parts with a register. */
+static int as_asked(const struct order *o, const struct crep_chip *chip)
+{
+    return standing(o, chip) && bare(chip->part) == bare(o->part);
+}
+
+/* n bytes acknowledged from a message's start on. */
+static int acknowledged(const uint8_t *answers, int n)
 {
     int i, low = 0;
 
-    for (i = 0; i < CREP_SEND; i++)
-        if (CREP_NOTE(answers[i]) != (i == FIRST_STOP ? CREP_NOTE_LATCH : i == SECOND_STOP ? last : CREP_NOTE_NONE))
+    for (i = 0; i < n; i++)
+        low += !CREP_LINE(answers[NINTH + BYTE * i]);
+    return low == n;
+}
+
+/* In n events: note `note` at event `at`, 0 elsewhere. */
+static int noted(const uint8_t *answers, int n, int at, int note)
+{
+    int i;
+
+    for (i = 0; i < n; i++)
+        if (CREP_NOTE(answers[i]) != (i == at ? note : CREP_NOTE_NONE))
             return 0;
-    for (i = 0; i < 4; i++)
-        low += !CREP_LINE(answers[FIRST_NINTH + BYTE * i]);
-    for (i = 0; i < 35; i++)
-        low += !CREP_LINE(answers[SECOND_NINTH + BYTE * i]);
-    return low == 39;
+    return 1;
+}
+
+/* Note 3 at the end of the first message, where there is one, and `last` at that of the second, 0 elsewhere; each of
+ * the 39 bytes acknowledged, or of the 35. */
+static int answered(const struct order *o, const uint8_t *answers, int last)
+{
+    if (!bare(o->part)) {
+        if (!noted(answers, FIRST, FIRST_STOP, CREP_NOTE_LATCH) || !acknowledged(answers, 4))
+            return 0;
+        answers += FIRST;
+    }
+    return noted(answers, CREP_SEND_X24F129, SECOND_STOP, last) && acknowledged(answers, 35);
 }
 
 /* A chip of zeros with the line high, but for part, select, PPEN, BL and spoil, which are as before. */
@@ -167,12 +212,13 @@ static void keep_wait(struct crep_chip *chip, const struct crep_chip *before)
     }
 }
 
-/* Idle in standby with PEL 1 and the sector's address, both wires high. */
+/* Idle in standby with PEL 1, on an X24F129 as it was, and the sector's address, both wires high. */
 static int left(const struct order *o, const struct crep_chip *before, int locked)
 {
     struct crep_chip wanted = as_before(before);
 
-    wanted.pel = wanted.scl = 1;
+    wanted.scl = 1;
+    wanted.pel = bare(before->part) ? before->pel : 1;
     wanted.counter_high = (uint8_t)(o->gate / 8);
     wanted.counter_low = (uint8_t)(o->gate % 8 * 32);
     if (locked)
@@ -180,11 +226,12 @@ static int left(const struct order *o, const struct crep_chip *before, int locke
     return memcmp(&library.chip, &wanted, sizeof wanted) == 0;
 }
 
+/* The pin is low, so that an X24F129 has nothing locked. */
 static int is_locked(const struct order *o, const struct crep_chip *before)
 {
     static const unsigned first_locked[4] = { 0x4000, 0x3000, 0x2000, 0x0000 };
 
-    return o->gate * 32u >= first_locked[before->bl];
+    return !bare(before->part) && o->gate * 32u >= first_locked[before->bl];
 }
 
 /* The library's side is looked at, so that a mistake which both share is found too; `array` is what was before. */
@@ -195,8 +242,27 @@ static int promised(const struct order *o, const struct crep_chip *before, uint8
     if (!locked)
         memcpy(array + o->gate * 32u, o->record, CREP_RECORD);
     tally.locked[locked]++;
-    return answered(library.answers, locked ? CREP_NOTE_LOCKED : CREP_NOTE_STORED)
+    tally.sent[before->part]++;
+    return answered(o, library.answers, locked ? CREP_NOTE_LOCKED : CREP_NOTE_STORED)
         && left(o, before, locked) && memcmp(library.array, array, CREP_ARRAY) == 0;
+}
+
+/* The events for a part with a register on an X24F129: 02h is a load of one byte at 3FFFh, which spoils sector 511, and
+ * the chip is busy until the program-done. Those for an X24F129 on another part are a message as any other. */
+static int promised_crossed(const struct order *o, const struct crep_chip *before, uint8_t *array)
+{
+    struct crep_chip wanted = as_before(before);
+
+    tally.sent[bare(o->part) ? 4 : 3]++;
+    if (bare(o->part))
+        return 1;
+    memset(array + 0x3fe0, before->spoil, 32);
+    wanted.scl = 1;
+    wanted.pel = before->pel;
+    wanted.counter_high = 0x3f;
+    wanted.counter_low = 0xe0;
+    return noted(library.answers, CREP_SEND, FIRST_STOP, CREP_NOTE_NOT_32) && acknowledged(library.answers, 4)
+        && memcmp(&library.chip, &wanted, sizeof wanted) == 0 && memcmp(library.array, array, CREP_ARRAY) == 0;
 }
 
 /* Cut off before its program-done: the sector holds, byte by byte, old or new, and all beside it is kept. */
@@ -218,7 +284,7 @@ static int promised_cut(const struct order *o, const struct crep_chip *before, u
 static void do_send(struct side *side, const struct order *o)
 {
     memcpy(side->record, o->record, ROOM);
-    side->refusal = side->kit->send(o->select, o->gate, side->record, o->record_len, side->trace, o->trace_len,
+    side->refusal = side->kit->send(o->part, o->select, o->gate, side->record, o->record_len, side->trace, o->trace_len,
                                     &side->events);
 }
 
@@ -244,7 +310,7 @@ static int compare_sent(struct chance *chance, const struct order *o)
     static uint8_t array[CREP_ARRAY];
     struct crep_chip chip;
 
-    standing_by(chance, &chip, o->select);
+    standing_by(chance, &chip, o);
     stir_array(chance, array);
     do_run(&library, &chip, array, library.events);
     do_run(&model, &chip, array, model.events);
@@ -252,6 +318,8 @@ static int compare_sent(struct chance *chance, const struct order *o)
         return differ_run("crep_run on what crep_send wrote", o, &chip);
     if (as_asked(o, &chip) && (library.refusal || !promised(o, &chip, array)))
         return differ_run("what crep_send promises: both sides break it", o, &chip);
+    if (standing(o, &chip) && !as_asked(o, &chip) && !promised_crossed(o, &chip, array))
+        return differ_run("what crep_send does to another part: both sides break it", o, &chip);
     return 0;
 }
 
@@ -260,7 +328,7 @@ static void do_cut(struct side *side, const struct crep_chip *chip, const uint8_
 {
     uint8_t answer;
 
-    do_run(side, chip, array, CREP_SEND - 1);
+    do_run(side, chip, array, side->events - 1u);
     if (side->refusal == 0)
         side->refusal = side->kit->power_up(&side->chip, side->array, CREP_ARRAY, choices, &answer);
 }
@@ -271,7 +339,7 @@ static int compare_cut(struct chance *chance, const struct order *o)
     uint32_t choices = stir_choices(chance);
     struct crep_chip chip;
 
-    standing_by(chance, &chip, o->select);
+    standing_by(chance, &chip, o);
     stir_array(chance, array);
     do_cut(&library, &chip, array, choices);
     do_cut(&model, &chip, array, choices);

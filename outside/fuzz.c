@@ -139,7 +139,7 @@ static void check(int good)
 static void fuzz_new(struct chance *chance)
 {
     struct crep_chip *chip = lend_chip(chance, 0);
-    uint8_t part = (uint8_t)(chance_once_in(chance, 2) ? chance_byte(chance) : chance_below(chance, 3));
+    uint8_t part = (uint8_t)(chance_once_in(chance, 2) ? chance_byte(chance) : chance_below(chance, 4));
 
     doing = "crep_new";
     check(crep_new(chip, part, (uint8_t)chance_below(chance, 10)) <= 14);
@@ -312,7 +312,9 @@ static void fuzz_name(struct chance *chance)
 
 static void fuzz_send(struct chance *chance)
 {
-    size_t n, m = stir_length(chance, CREP_SEND, 1000);
+    uint8_t part = (uint8_t)(chance_once_in(chance, 10) ? chance_byte(chance) : chance_below(chance, 4));
+    size_t n, events_of_part = part == CREP_X24F129 ? CREP_SEND_X24F129 : CREP_SEND;
+    size_t m = stir_length(chance, events_of_part, 1000);
     uint8_t *record = lend_record(chance, 0, &n), *trace = lend(chance, 1, m), refusal;
     uint16_t *events = (uint16_t *)(void *)lend(chance, 2, sizeof *events), gate = (uint16_t)chance_below(chance, 600);
     uint8_t select = (uint8_t)chance_below(chance, 10);
@@ -321,8 +323,8 @@ static void fuzz_send(struct chance *chance)
         gate = (uint16_t)chance_word(chance);
     keep(0);
     doing = "crep_send";
-    refusal = crep_send(select, gate, record, n, trace, m, events);
-    check(refusal <= 17 && *events == (refusal ? 0 : CREP_SEND));
+    refusal = crep_send(part, select, gate, record, n, trace, m, events);
+    check(refusal <= 17 && *events == (refusal ? 0 : events_of_part));
     take_all_back(3);
 }
 

@@ -15,7 +15,7 @@ struct kit {
     uint8_t (*record_limits)(uint8_t *, size_t, int32_t, int32_t);
     uint8_t (*record_read)(const uint8_t *, size_t, int32_t *, int32_t *, int32_t *, uint8_t *, uint8_t *);
     uint8_t (*record_name)(const uint8_t *, size_t, const uint8_t *, size_t, size_t *, size_t *, uint8_t *);
-    uint8_t (*send)(uint8_t, uint16_t, const uint8_t *, size_t, uint8_t *, size_t, uint16_t *);
+    uint8_t (*send)(uint8_t, uint8_t, uint16_t, const uint8_t *, size_t, uint8_t *, size_t, uint16_t *);
     uint8_t (*map_build)(const uint8_t *, size_t, uint8_t *, size_t);
     uint8_t (*map_first)(const uint8_t *, size_t, uint16_t *);
     uint8_t (*map_event)(struct crep_chip *, uint8_t *, size_t, uint8_t *, size_t, uint8_t, uint8_t *);

@@ -24,7 +24,7 @@ enum wait { NOTHING, SECTOR, REGISTER };
 /* The 32 choices of a program-done and of event 9. */
 #define ALL 0xffffffffu
 
-/* "What a rightly placed STOP does": first locked address for each part and BL, 4000h for none. */
+/* "What a rightly placed STOP does": first locked address for each part with a register and BL, 4000h for none. */
 static const unsigned first_locked[2][4] = {
     { 0x4000, 0x3000, 0x2000, 0x0000 },
     { 0x4000, 0x3000, 0x2000, 0x0000 },
@@ -41,6 +41,18 @@ static void set_counter(struct crep_chip *c, unsigned address)
 {
     c->counter_high = (uint8_t)(address / 256);
     c->counter_low = (uint8_t)(address % 256);
+}
+
+/* Request T-07: the X24F129 has no register. What it carries of one, the mark too, is written as on the other parts and
+ * never read. */
+static int has_register(const struct crep_chip *c)
+{
+    return c->part != CREP_X24F129;
+}
+
+static int register_selected(const struct crep_chip *c)
+{
+    return has_register(c) && c->mark;
 }
 
 static int receives(const struct crep_chip *c)
@@ -160,7 +172,7 @@ static int wait_good(const struct crep_chip *c)
 /* The spoil byte is any byte (T-03). */
 static int chip_good(const struct crep_chip *c)
 {
-    return c->part <= 1 && c->select <= 7 && c->bl <= 3 && counter_of(c) <= 0x3fff && c->count <= 33
+    return c->part <= 2 && c->select <= 7 && c->bl <= 3 && counter_of(c) <= 0x3fff && c->count <= 33
         && flags_good(c) && phase_good(c) && wait_good(c);
 }
 
@@ -214,12 +226,13 @@ static void take_slave(struct crep_chip *c, uint8_t byte)
         go(c, byte & 1 ? ACK_READ : ACK_WRITE);
 }
 
-/* FFFFh sets the mark and leaves the counter; any other address clears it and sets the counter. */
+/* FFFFh sets the mark and leaves the counter; any other address clears it and sets the counter, and so does FFFFh where
+ * there is no register (T-07). */
 static void take_address(struct crep_chip *c, uint8_t high, uint8_t low)
 {
     unsigned address = high * 256u + low;
 
-    c->mark = address == 0xffff;
+    c->mark = has_register(c) && address == 0xffff;
     if (!c->mark)
         set_counter(c, address % 16384);
     go(c, ACK_DATA);
@@ -252,11 +265,12 @@ static enum note take_register_data(struct crep_chip *c, uint8_t byte)
     return QUIET;
 }
 
+/* Without a register there is no PEL to ask for (T-07). */
 static enum note take_data(struct crep_chip *c, uint8_t byte)
 {
-    if (c->mark)
+    if (register_selected(c))
         return take_register_data(c, byte);
-    if (!c->pel) {
+    if (has_register(c) && !c->pel) {
         go(c, STANDBY);
         return QUIET;
     }
@@ -296,7 +310,7 @@ static uint8_t register_byte(const struct crep_chip *c)
 /* The byte is taken at the fall of bit 7; the mark decides which. */
 static void begin_sending(struct crep_chip *c, const uint8_t *array)
 {
-    uint8_t byte = c->mark ? register_byte(c) : array[counter_of(c)];
+    uint8_t byte = register_selected(c) ? register_byte(c) : array[counter_of(c)];
 
     go(c, SENDING);
     c->bits = 7;
@@ -308,7 +322,7 @@ static void send_on(struct crep_chip *c)
 {
     if (c->bits > 0) {
         c->bits--;
-    } else if (c->mark) {
+    } else if (register_selected(c)) {
         set_counter(c, 0);
         c->mark = 0;
         go(c, STANDBY);
@@ -391,14 +405,22 @@ static enum note store(struct crep_chip *c)
     return ARRAY_CYCLE;
 }
 
-/* The lock first, with BL in force (T-05), then the count, which the X24F128 alone asks for. */
-static enum note write_array(struct crep_chip *c)
+/* By BL in force (T-05); without a register by the pin in this sample, from 3000h on (T-07). */
+static int sector_locked(const struct crep_chip *c, int pin)
 {
     unsigned sector = counter_of(c) / 32 * 32;
 
-    if (sector >= first_locked[c->part][c->bl])
+    if (!has_register(c))
+        return pin && sector >= 0x3000;
+    return sector >= first_locked[c->part][c->bl];
+}
+
+/* The lock first, then the count, for which the X24128 alone does not ask. */
+static enum note write_array(struct crep_chip *c, int pin)
+{
+    if (sector_locked(c, pin))
         return LOCKED;
-    if (c->part == 1 && c->count != 32)
+    if (c->part != CREP_X24128 && c->count != 32)
         return spoil(c);
     return store(c);
 }
@@ -438,8 +460,8 @@ static enum note placed_stop(struct crep_chip *c, int pin)
 
     if (c->count == 0)
         return QUIET;
-    if (!c->mark)
-        return write_array(c);
+    if (!register_selected(c))
+        return write_array(c, pin);
     note = write_register(c, c->load[0], pin);
     set_counter(c, 0);
     c->mark = 0;
@@ -575,7 +597,7 @@ static uint8_t one_event(struct crep_chip *c, uint8_t *array, uint8_t event)
  * with select 0. */
 uint8_t model_new(struct crep_chip *chip, uint8_t part, uint8_t select)
 {
-    int refused = part > 1 || select > 7;
+    int refused = part > 2 || select > 7;
 
     memset(chip, 0, sizeof *chip);
     power_up(chip);
@@ -863,8 +885,15 @@ uint8_t model_name(const uint8_t *record, size_t record_len, const uint8_t *stan
 
 /* ---- Sending a record (request T-01) ---- */
 
-/* The record first, then 15, 16, 17. */
-static uint8_t refuse_send(uint8_t select, uint16_t gate, const uint8_t *record, size_t record_len, size_t trace_len)
+/* 77 that set PEL, which a part without a register has not (T-07), 635 with the record and the program-done. */
+static size_t events_for(uint8_t part)
+{
+    return part == CREP_X24F129 ? 636 : 713;
+}
+
+/* The record first, then 15, 16, 3, 17. */
+static uint8_t refuse_send(uint8_t part, uint8_t select, uint16_t gate, const uint8_t *record, size_t record_len,
+                           size_t trace_len)
 {
     uint8_t refusal = refuse_no_gate(record, record_len);
 
@@ -874,21 +903,25 @@ static uint8_t refuse_send(uint8_t select, uint16_t gate, const uint8_t *record,
         return 15;
     if (select > 7)
         return 16;
-    return trace_len < 713 ? 17 : 0;
+    if (part > 2)
+        return 3;
+    return trace_len < events_for(part) ? 17 : 0;
 }
 
-/* Both messages are spelt as case 13 spells its one: PEL set, the record at 32 times the gate number, program-done. */
-uint8_t model_send(uint8_t select, uint16_t gate, const uint8_t *record, size_t record_len,
+/* Both messages are spelt as case 13 spells its one: PEL set where there is one, the record at 32 times the gate
+ * number, program-done. */
+uint8_t model_send(uint8_t part, uint8_t select, uint16_t gate, const uint8_t *record, size_t record_len,
                    uint8_t *trace, size_t trace_len, uint16_t *events)
 {
-    uint8_t refusal = refuse_send(select, gate, record, record_len, trace_len);
+    uint8_t refusal = refuse_send(part, select, gate, record, record_len, trace_len);
     struct wire wire;
 
     *events = 0;
     if (refusal)
         return refusal;
     wire_open(&wire, trace, trace_len);
-    wire_register(&wire, select, 0x02);
+    if (part != CREP_X24F129)
+        wire_register(&wire, select, 0x02);
     wire_write(&wire, select, gate * 32u, record, RECORD);
     wire_event(&wire, 8);
     *events = (uint16_t)wire.len;

@@ -20,7 +20,7 @@ uint8_t model_record_read(const uint8_t *record, size_t record_len, int32_t *clo
                           int32_t *travel, uint8_t *label_len, uint8_t *free_record);
 uint8_t model_name(const uint8_t *record, size_t record_len, const uint8_t *standard, size_t standard_len,
                    size_t *start, size_t *len, uint8_t *from_record);
-uint8_t model_send(uint8_t select, uint16_t gate, const uint8_t *record, size_t record_len,
+uint8_t model_send(uint8_t part, uint8_t select, uint16_t gate, const uint8_t *record, size_t record_len,
                    uint8_t *trace, size_t trace_len, uint16_t *events);
 uint8_t model_map_build(const uint8_t *array, size_t array_len, uint8_t *map, size_t map_len);
 uint8_t model_map_first(const uint8_t *map, size_t map_len, uint16_t *sector);

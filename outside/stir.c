@@ -108,7 +108,7 @@ void stir_chip(struct chance *chance, struct crep_chip *chip)
     static const uint32_t counters[] = { 0, 0x1fff, 0x2000, 0x2fff, 0x3000, 0x3fff, 0x3fe0, 31 };
     uint32_t counter = flag(chance) ? chance_below(chance, 0x4000) : ONE_OF(chance, counters);
 
-    chip->part = flag(chance);
+    chip->part = (uint8_t)chance_below(chance, 3);
     chip->select = (uint8_t)chance_below(chance, 8);
     chip->ppen = flag(chance);
     chip->bl = (uint8_t)chance_below(chance, 4);
@@ -131,6 +131,13 @@ void stir_chip(struct chance *chance, struct crep_chip *chip)
         chip->high = 0;
         chip->scl = 1;
         chip->line = 0;
+    }
+    /* the last fall of a data byte, and of a byte that is sent */
+    if (chance_once_in(chance, 8)) {
+        chip->phase = flag(chance) ? CREP_PHASE_DATA : CREP_PHASE_SENDING;
+        chip->bits = chip->phase == CREP_PHASE_DATA ? 8 : 0;
+        chip->high = 0;
+        chip->scl = 1;
     }
 }
 
@@ -161,7 +168,7 @@ void stir_out_of_range(struct chance *chance, struct crep_chip *chip)
     uint8_t *one = flags[chance_below(chance, 7)];
 
     switch (chance_below(chance, 14)) {
-    case 0: chip->part = above(chance, 2); break;
+    case 0: chip->part = above(chance, 3); break;
     case 1: chip->select = above(chance, 8); break;
     case 2: chip->bl = above(chance, 4); break;
     case 3: chip->counter_high = above(chance, 0x40); break;
@@ -236,6 +243,14 @@ static uint32_t stir_address(struct chance *chance)
     return flag(chance) ? ONE_OF(chance, edges) : chance_below(chance, 0x10000);
 }
 
+/* A register byte; on a part without a register it begins a cycle, so a program-done comes after it at times. */
+static void a_latch(struct chance *chance, struct wire *wire, int select, uint8_t byte)
+{
+    wire_register(wire, select, byte);
+    if (flag(chance))
+        wire_event(wire, 8);
+}
+
 static void a_command(struct chance *chance, struct wire *wire, int select)
 {
     static const uint32_t commands[] = { 0x02, 0x02, 0x02, 0x06, 0x06, 0x00 };
@@ -245,7 +260,7 @@ static void a_command(struct chance *chance, struct wire *wire, int select)
         byte = 0x02 | bl << 3 | chance_below(chance, 2) << 7;
     if (chance_once_in(chance, 12))
         byte = chance_byte(chance);
-    wire_register(wire, select, (uint8_t)byte);
+    a_latch(chance, wire, select, (uint8_t)byte);
 }
 
 /* PEL, RPEL, then PPEN and BL. */
@@ -259,6 +274,15 @@ static void a_locking(struct chance *chance, struct wire *wire, int select)
     an_end(chance, wire);
 }
 
+/* A write, with the pin of its STOP's own sample turned at times. */
+static void a_message(struct chance *chance, struct wire *wire, int select, uint32_t address, const uint8_t *bytes,
+                      uint32_t n)
+{
+    wire_write(wire, select, address, bytes, n);
+    if (chance_once_in(chance, 5) && wire->len > 0 && wire->events[wire->len - 1] < 8)
+        wire->events[wire->len - 1] ^= CREP_PIN;
+}
+
 static void a_write(struct chance *chance, struct wire *wire, int select)
 {
     static const uint32_t sizes[] = { 0, 1, 2, 5, 26, 27, 31, 32, 32, 32, 32, 33, 34, 40, 64, 65 };
@@ -269,8 +293,8 @@ static void a_write(struct chance *chance, struct wire *wire, int select)
     if (chance_once_in(chance, 4))
         memset(bytes, 0xff, sizeof bytes);
     if (flag(chance))
-        wire_register(wire, select, 0x02);
-    wire_write(wire, select, address, bytes, ONE_OF(chance, sizes));
+        a_latch(chance, wire, select, 0x02);
+    a_message(chance, wire, select, address, bytes, ONE_OF(chance, sizes));
     an_end(chance, wire);
 }
 
@@ -389,13 +413,14 @@ static void a_cycle(struct chance *chance, struct wire *wire, int select)
     memset(bytes, flag(chance) ? 0xff : chance_byte(chance), sizeof bytes);
     if (chance_once_in(chance, 3))
         address += chance_below(chance, 32);
-    wire_write(wire, select, address, bytes, n);
+    a_message(chance, wire, select, address, bytes, n);
 }
 
 void stir_cycles(struct chance *chance, struct wire *wire, int select)
 {
-    wire_register(wire, select, 0x02);
+    a_latch(chance, wire, select, 0x02);
     while (wire->len < wire->room) {
+        wire->pin = chance_once_in(chance, 4);
         if (chance_once_in(chance, 12))
             a_locking(chance, wire, select);
         else
@@ -405,7 +430,7 @@ void stir_cycles(struct chance *chance, struct wire *wire, int select)
         if (chance_once_in(chance, 10))
             wire_event(wire, (uint8_t)(9 + chance_below(chance, 3)));
         if (wire->len > 0 && wire->events[wire->len - 1] > 8)
-            wire_register(wire, select, 0x02);
+            a_latch(chance, wire, select, 0x02);
     }
 }
 

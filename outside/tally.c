@@ -39,7 +39,11 @@ int tally_print(void)
     missing += row("pulses", tally.pulses, 1, 10);
     missing += row("shown", tally.shown, 0, 2);
     missing += row("locked", tally.locked, 0, 1);
+    missing += row("sent", tally.sent, 0, 4);
     missing += row("short", tally.short_loads, 0, 2);
+    missing += row("stops", tally.stops, 0, 7);
+    missing += row("unread", tally.unread, 0, 6);
+    missing += row("twins", tally.twins, 0, 1);
     missing += row("waits", tally.waits, 0, 5);
     missing += row("dones", tally.dones, 0, 3);
     missing += row("cuts", tally.cuts, 0, 6);

@@ -26,7 +26,7 @@ static int good_chip(const struct crep_chip *c)
         flags |= c->places[i] | (c->wait == SECTOR ? c->wait_places[i] : 0);
     if (c->wait == SECTOR ? c->wait_high > 1 : c->wait == BITS ? c->wait_ppen > 1 || c->wait_bl > 3 : c->wait != 0)
         return 0;
-    return flags <= 1 && c->part <= 1 && c->select <= 7 && c->bl <= 3 && c->counter_high <= 0x3f && c->count <= 33
+    return flags <= 1 && c->part <= 2 && c->select <= 7 && c->bl <= 3 && c->counter_high <= 0x3f && c->count <= 33
         && c->phase <= NEXT && c->bits <= most;
 }
 
@@ -89,20 +89,31 @@ static unsigned drop(struct crep_chip *c)
     return note;
 }
 
+/* The X24F129 has no register: mark, PEL and BL are not read. */
+static unsigned bare(const struct crep_chip *c)
+{
+    return c->part >> 1;
+}
+
+static unsigned marked(const struct crep_chip *c)
+{
+    return c->mark & ~bare(c);
+}
+
 /* A data byte at its last fall: the next phase, and note 7 by way of *note. */
 static unsigned data(struct crep_chip *c, unsigned byte, unsigned *note)
 {
-    unsigned at = c->mark ? 0 : c->counter_low & 31;
+    unsigned mark = marked(c), at = mark ? 0 : c->counter_low & 31;
 
-    if (c->mark ? c->count != 0 : !c->pel) {
-        if (c->mark)
+    if (mark ? c->count != 0 : !(c->pel | bare(c))) {
+        if (mark)
             *note = drop(c);
         return IDLE;
     }
     c->load[at] = (uint8_t)byte;
     c->places[at] = 1;
     c->count += c->count < 33;
-    if (!c->mark)
+    if (!mark)
         c->counter_low = (uint8_t)((c->counter_low & 0xe0) | ((at + 1) & 31));
     return ACK_D;
 }
@@ -111,7 +122,7 @@ static unsigned address(struct crep_chip *c, unsigned low)
 {
     unsigned all = (unsigned)c->high << 8 | low;
 
-    c->mark = all == 0xffff;
+    c->mark = all == 0xffff && !bare(c);
     if (!c->mark)
         count_to(c, all);
     return ACK_D;
@@ -136,16 +147,16 @@ static unsigned taken(struct crep_chip *c, unsigned phase, unsigned byte, unsign
 /* The byte to send, at the fall of its bit 7. */
 static unsigned sent(const struct crep_chip *c, const uint8_t *array)
 {
-    return c->mark ? (unsigned)(c->ppen << 7 | c->bl << 3 | c->rpel << 2 | c->pel << 1) : array[counter(c)];
+    return marked(c) ? (unsigned)(c->ppen << 7 | c->bl << 3 | c->rpel << 2 | c->pel << 1) : array[counter(c)];
 }
 
 /* The phase after bit 0 of a sent byte. */
 static unsigned sent_all(struct crep_chip *c)
 {
-    unsigned was = c->mark;
+    unsigned was = marked(c);
 
     count_to(c, was ? 0 : counter(c) + 1);
-    c->mark = 0;
+    c->mark ^= was;
     return was ? IDLE : WAIT;
 }
 
@@ -157,11 +168,11 @@ static void begin(struct crep_chip *c, unsigned wait)
     c->wait = (uint8_t)wait;
 }
 
-static unsigned store(struct crep_chip *c)
+static unsigned store(struct crep_chip *c, unsigned pin)
 {
-    unsigned at = counter(c) >> 5, i;
+    unsigned at = counter(c) >> 5, i, lock = bare(c) ? pin : c->bl;
 
-    if (c->bl && at >= (c->bl == 3 ? 0u : 0x200u - c->bl * 0x80u))
+    if (lock && at >= (lock == 3 ? 0u : 0x200u - lock * 0x80u))
         return 4;
     begin(c, SECTOR);
     c->wait_high = (uint8_t)(at >> 8);
@@ -206,7 +217,7 @@ static unsigned stop(struct crep_chip *c, int placed, unsigned pin)
     if (!placed)
         return drop(c);
     if (c->count)
-        note = c->mark ? set_register(c, c->load[0], pin) : store(c);
+        note = marked(c) ? set_register(c, c->load[0], pin) : store(c, pin);
     drop(c);
     return note;
 }

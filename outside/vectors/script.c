@@ -256,7 +256,8 @@ static void send_record(void)
 
     if (room > sizeof array || space_lent > sizeof tape)
         return;
-    refusal = model_send((uint8_t)(value / 65536 % 256), (uint16_t)(value % 65536), array, room, tape, space_lent, &events);
+    refusal = model_send((uint8_t)(value / 16777216), (uint8_t)(value / 65536 % 256), (uint16_t)(value % 65536), array, room,
+                         tape, space_lent, &events);
     refused(refusal);
     for (i = 0; i < sizeof tape; i++)
         sum = (sum + tape[i]) % 65536;
