@@ -14,7 +14,7 @@
 #include "driver.h"
 #include "latin1.h"
 
-enum { GATE = 7, SELECT = 2 };
+enum { PART = CREP_X24128, SELECT = 2, GATE = 7, FROM_3000H = 384, LAST = 511 };
 
 static void fail_test(const char *file, int line, const char *reason)
 {
@@ -22,17 +22,17 @@ static void fail_test(const char *file, int line, const char *reason)
     _fail(file, line);
 }
 
-/* A new X24128 with PEL set and a good record at hand. */
+/* A new X24128 with PEL set and a good record at hand; a test with another part fits its own. */
 static int new_board(void **state)
 {
     static uint8_t record[CREP_RECORD];
 
     board_stop = fail_test;
     board.trace = NULL;
-    board_new(CREP_X24128, SELECT);
+    board_new(PART, SELECT);
     board_taken(crep_record_write(record, sizeof record, 150, -200, (const uint8_t *)"NORTH", 5));
     *state = record;
-    return !memory_enable(SELECT);
+    return !memory_enable(PART, SELECT);
 }
 
 static void a_record_comes_back(void **state)
@@ -109,13 +109,13 @@ static void the_kit_sends_a_record(void **state)
 
     board.trace = trace;
     board.trace_room = sizeof trace;
-    board_new(CREP_X24128, SELECT);
+    board_new(PART, SELECT);
     board.polls = 3;
     board.trace_len = 0;
-    assert_true(memory_send_record(SELECT, GATE, *state));
+    assert_true(memory_send_record(PART, SELECT, GATE, *state));
     assert_int_equal(board_note(), CREP_NOTE_STORED);
     assert_memory_equal(board.array + GATE * CREP_RECORD, *state, CREP_RECORD);
-    board_taken(crep_send(SELECT, GATE, *state, CREP_RECORD, events, sizeof events, &n));
+    board_taken(crep_send(PART, SELECT, GATE, *state, CREP_RECORD, events, sizeof events, &n));
     assert_memory_equal(trace, events, n - 1);
 }
 
@@ -126,11 +126,108 @@ static void rpel_must_be_clear(void **state)
     board.polls = BOARD_NEVER;
     board.chip.bl = 3;
     board.chip.rpel = 1;
-    assert_false(memory_send_record(SELECT, GATE, *state));
+    assert_false(memory_send_record(PART, SELECT, GATE, *state));
     assert_int_equal(board_note(), CREP_NOTE_REGISTER);
     assert_int_equal(board.chip.bl, 3);
     board_done();
     assert_int_equal(board.chip.bl, 0);
+}
+
+/* An X24F129 has no PEL: the driver sets none, and the kit's events for it have one message. */
+static void a_part_without_a_register(void **state)
+{
+    static uint8_t trace[CREP_TRACE], events[CREP_SEND];
+    uint16_t n;
+
+    board.trace = trace;
+    board.trace_room = sizeof trace;
+    board_new(CREP_X24F129, SELECT);
+    board.trace_len = 0;
+    assert_true(memory_enable(CREP_X24F129, SELECT));
+    assert_int_equal(board.trace_len, 0);
+    assert_true(memory_send_record(CREP_X24F129, SELECT, GATE, *state));
+    assert_int_equal(board_note(), CREP_NOTE_STORED);
+    assert_memory_equal(board.array + GATE * CREP_RECORD, *state, CREP_RECORD);
+    board_taken(crep_send(CREP_X24F129, SELECT, GATE, *state, CREP_RECORD, events, CREP_SEND_X24F129, &n));
+    assert_int_equal(n, CREP_SEND_X24F129);
+    assert_memory_equal(trace, events, n);
+}
+
+/* With the pin high gate 384, at 3000h, is kept, from a short load too, and gate 383 is written. */
+static void the_pin_locks_from_3000h(void **state)
+{
+    const uint8_t *record = *state;
+
+    board_new(CREP_X24F129, SELECT);
+    assert_true(memory_write_sector(SELECT, FROM_3000H, record));
+    assert_int_equal(board_note(), CREP_NOTE_STORED);
+    board.pin = 1;
+    assert_true(memory_write(SELECT, FROM_3000H * CREP_RECORD, record, 20));
+    assert_int_equal(board_note(), CREP_NOTE_LOCKED);
+    assert_memory_equal(board.array + FROM_3000H * CREP_RECORD, record, CREP_RECORD);
+    assert_true(memory_write_sector(SELECT, LAST, record));
+    assert_int_equal(board_note(), CREP_NOTE_LOCKED);
+    assert_int_equal(board.array[LAST * CREP_RECORD], 0xff);
+    assert_true(memory_write_sector(SELECT, FROM_3000H - 1, record));
+    assert_int_equal(board_note(), CREP_NOTE_STORED);
+    assert_memory_equal(board.array + (FROM_3000H - 1) * CREP_RECORD, record, CREP_RECORD);
+}
+
+/* 32 bytes for gate 384, the pin at one level up to the STOP and at another in it; returns the note. */
+static int note_with_pins(const uint8_t *record, int before, int at_stop)
+{
+    int i;
+
+    board.pin = before;
+    wires_start();
+    assert_true(wires_send(0xa0 | SELECT << 1));
+    assert_true(wires_send(FROM_3000H * CREP_RECORD / 256) && wires_send(FROM_3000H * CREP_RECORD % 256));
+    for (i = 0; i < CREP_RECORD; i++)
+        assert_true(wires_send(record[i]));
+    board_wires(0, 0);
+    board_wires(1, 0);
+    board.pin = at_stop;
+    board_wires(1, 1);
+    return board_note();
+}
+
+/* The STOP's own sample decides, and what it began ends with the pin high too. */
+static void the_pin_counts_at_the_stop(void **state)
+{
+    board_new(CREP_X24F129, SELECT);
+    assert_int_equal(note_with_pins(*state, 0, 1), CREP_NOTE_LOCKED);
+    board.polls = BOARD_NEVER;
+    assert_int_equal(note_with_pins(*state, 1, 0), CREP_NOTE_STORED);
+    board.pin = 1;
+    board_wires(1, 1);
+    board_done();
+    assert_memory_equal(board.array + FROM_3000H * CREP_RECORD, *state, CREP_RECORD);
+}
+
+/* Runs on a chip of this part the events that are for that one; returns the note of event 76. */
+static int note_of_other_events(uint8_t part, uint8_t that, const uint8_t *record)
+{
+    static uint8_t events[CREP_SEND], answers[CREP_SEND];
+    uint16_t n;
+
+    board_new(part, SELECT);
+    memcpy(board.array + LAST * CREP_RECORD, record, CREP_RECORD);
+    board_taken(crep_send(that, SELECT, GATE, record, CREP_RECORD, events, sizeof events, &n));
+    board_taken(crep_run(&board.chip, board.array, sizeof board.array, events, n, answers, sizeof answers));
+    assert_int_equal(board.array[GATE * CREP_RECORD], 0xff);
+    return CREP_NOTE(answers[76]);
+}
+
+/* The part of crep_send has to be the chip's: else the record is not stored, and an X24F129 loses that of gate 511. */
+static void the_wrong_part_costs_a_record(void **state)
+{
+    uint8_t spoilt[CREP_RECORD];
+
+    memset(spoilt, 0xff, sizeof spoilt);
+    assert_int_equal(note_of_other_events(CREP_X24F129, CREP_X24F128, *state), CREP_NOTE_NOT_32);
+    assert_memory_equal(board.array + LAST * CREP_RECORD, spoilt, CREP_RECORD);
+    assert_int_equal(note_of_other_events(CREP_X24F128, CREP_X24F129, *state), CREP_NOTE_NONE);
+    assert_memory_equal(board.array + LAST * CREP_RECORD, *state, CREP_RECORD);
 }
 
 /* The power fails in the cycle that overwrites a record: the array was as before until then, and half of it is new. */
@@ -186,9 +283,9 @@ static void gates_are_added_where_it_is_free(void **state)
     memcpy(board.array + CREP_RECORD, *state, CREP_RECORD);
     board_map();
     assert_int_equal(first_free(), 0);
-    assert_true(memory_send_record(SELECT, 0, *state));
+    assert_true(memory_send_record(PART, SELECT, 0, *state));
     assert_int_equal(first_free(), 2);
-    assert_true(memory_send_record(SELECT, 2, *state));
+    assert_true(memory_send_record(PART, SELECT, 2, *state));
     assert_int_equal(first_free(), 3);
     assert_map_is_true();
 }
@@ -202,7 +299,7 @@ static void a_full_memory_has_none(void **state)
     memset(board.array, 0x00, sizeof board.array);
     board_map();
     assert_int_equal(first_free(), CREP_NO_SECTOR);
-    assert_int_equal(crep_send(SELECT, CREP_NO_SECTOR, *state, CREP_RECORD, events, sizeof events, &n),
+    assert_int_equal(crep_send(PART, SELECT, CREP_NO_SECTOR, *state, CREP_RECORD, events, sizeof events, &n),
                      CREP_REFUSED_GATE);
     memset(empty, 0xff, sizeof empty);
     assert_true(memory_write_sector(SELECT, 511, empty));
@@ -218,7 +315,7 @@ static void the_map_follows_a_cut(void **state)
     assert_int_equal(first_free(), 0);
     board_cut(0);
     assert_int_equal(first_free(), 0);
-    assert_true(memory_enable(SELECT) && memory_write(SELECT, 0, *state, CREP_RECORD));
+    assert_true(memory_enable(PART, SELECT) && memory_write(SELECT, 0, *state, CREP_RECORD));
     board_cut(1u << 4);
     assert_int_equal(first_free(), 1);
     assert_map_is_true();
@@ -232,13 +329,13 @@ static void a_trace_runs_again(void **state)
 
     board.trace = trace;
     board.trace_room = sizeof trace;
-    board_new(CREP_X24128, SELECT);
-    assert_true(memory_enable(SELECT) && memory_write_sector(SELECT, GATE, *state));
+    board_new(PART, SELECT);
+    assert_true(memory_enable(PART, SELECT) && memory_write_sector(SELECT, GATE, *state));
     board.polls = BOARD_NEVER;
     assert_true(memory_write(SELECT, 0, *state, CREP_RECORD));
     board_cut(0xffff);
     memset(array, 0xff, sizeof array);
-    board_taken(crep_new(&chip, CREP_X24128, SELECT));
+    board_taken(crep_new(&chip, PART, SELECT));
     board_taken(crep_run(&chip, array, sizeof array, trace, board.trace_len, answers, sizeof answers));
     assert_memory_equal(&chip, &board.chip, sizeof chip);
     assert_memory_equal(array, board.array, sizeof array);
@@ -289,7 +386,7 @@ static void an_accented_label_comes_back(void **state)
     (void)state;
     assert_int_equal(latin1_from_utf8(nunez, strlen(nunez), label, sizeof label, &len), LATIN1_OK);
     board_taken(crep_record_write(bytes, sizeof bytes, 150, -200, label, len));
-    assert_true(memory_send_record(SELECT, GATE, bytes));
+    assert_true(memory_send_record(PART, SELECT, GATE, bytes));
     memset(bytes, 0x00, sizeof bytes);
     assert_true(memory_read_sector(SELECT, GATE, bytes));
     crep_name(bytes, sizeof bytes, NULL, 0, &start, &len, &from_record);
@@ -401,6 +498,10 @@ int main(void)
         cmocka_unit_test_setup(a_locked_sector_stays, new_board),
         cmocka_unit_test_setup(the_kit_sends_a_record, new_board),
         cmocka_unit_test_setup(rpel_must_be_clear, new_board),
+        cmocka_unit_test_setup(a_part_without_a_register, new_board),
+        cmocka_unit_test_setup(the_pin_locks_from_3000h, new_board),
+        cmocka_unit_test_setup(the_pin_counts_at_the_stop, new_board),
+        cmocka_unit_test_setup(the_wrong_part_costs_a_record, new_board),
         cmocka_unit_test_setup(a_cut_leaves_old_and_new, new_board),
         cmocka_unit_test_setup(a_cut_spares_the_sector, new_board),
         cmocka_unit_test_setup(gates_are_added_where_it_is_free, new_board),

@@ -98,12 +98,12 @@ int memory_write(uint8_t select, uint16_t address, const uint8_t *bytes, size_t 
     return good;
 }
 
-/* The register stands at FFFFh; 02h sets PEL. */
-int memory_enable(uint8_t select)
+/* The register stands at FFFFh; 02h sets PEL. In an X24F129 that is 3FFFh, and one byte would spoil the last sector. */
+int memory_enable(uint8_t part, uint8_t select)
 {
     uint8_t byte = 0x02;
 
-    return memory_write(select, 0xffff, &byte, 1);
+    return part == CREP_X24F129 || memory_write(select, 0xffff, &byte, 1);
 }
 
 int memory_read(uint8_t select, uint16_t address, uint8_t *bytes, size_t n)
@@ -179,11 +179,11 @@ int memory_play(uint8_t select, const uint8_t *events, size_t n)
 }
 
 /* The library links on the host alone: on a panel leave this out, and play events that crep_send wrote on the host. */
-int memory_send_record(uint8_t select, uint16_t gate, const uint8_t *record)
+int memory_send_record(uint8_t part, uint8_t select, uint16_t gate, const uint8_t *record)
 {
     static uint8_t events[CREP_SEND];
     uint16_t n;
 
-    return crep_send(select, gate, record, SECTOR, events, sizeof events, &n) == CREP_OK
+    return crep_send(part, select, gate, record, SECTOR, events, sizeof events, &n) == CREP_OK
         && memory_play(select, events, n);
 }

@@ -1,6 +1,7 @@
 /*
- * A bit-banging driver for the X24128 and X24F128 on two wires, small enough to read before it is trusted. It stands
- * over board_wires and board_line of board.h: on a panel they move port pins, in a host test they move the model.
+ * A bit-banging driver for the X24128, X24F128 and X24F129 on two wires, small enough to read before it is trusted. It
+ * stands over board_wires and board_line of board.h: on a panel they move port pins, in a host test they move the
+ * model. The part is the panel's own, CREP_X24128, CREP_X24F128 or CREP_X24F129: a wrong one can cost a record.
  */
 #ifndef DRIVER_H
 #define DRIVER_H
@@ -22,11 +23,13 @@ int wires_free(void);
 
 /* ---- The memory: each returns whether the chip acknowledged every byte ---- */
 
-int memory_enable(uint8_t select);      /* sets PEL: data bytes are taken until the next power-up */
+/* Sets PEL: data bytes are taken until the next power-up. An X24F129 has none and needs none: no pin moves. */
+int memory_enable(uint8_t part, uint8_t select);
+
 int memory_read(uint8_t select, uint16_t address, uint8_t *bytes, size_t n);
 
 /* Begins a cycle, and memory_wait waits it out: power that fails before its end can leave old bytes beside new ones.
- * An X24F128 acknowledges any n, and spoils the sector where n is not 32. */
+ * An X24F128 and an X24F129 acknowledge any n, and spoil the sector where n is not 32. */
 int memory_write(uint8_t select, uint16_t address, const uint8_t *bytes, size_t n);
 
 /* Asks the chip until it answers again, at most `polls` times. Returns how often it was asked; 0: still busy. */
@@ -40,8 +43,9 @@ int memory_read_sector(uint8_t select, unsigned sector, uint8_t *bytes);
  * the cycle is waited out. At the first byte that is not acknowledged it abandons the write and plays no more. */
 int memory_play(uint8_t select, const uint8_t *events, size_t n);
 
-/* A gate's record as crep_send spells it: PEL set, 32 bytes written, the cycle waited out. 0 also where crep_send
- * refuses, and no pin moves then. A chip whose RPEL may be set is powered up first, see crepulanter.h. */
-int memory_send_record(uint8_t select, uint16_t gate, const uint8_t *record);
+/* A gate's record as crep_send spells it: PEL set where the part has it, 32 bytes written, the cycle waited out. 0 also
+ * where crep_send refuses, and no pin moves then. A chip whose RPEL may be set is powered up first, see crepulanter.h.
+ */
+int memory_send_record(uint8_t part, uint8_t select, uint16_t gate, const uint8_t *record);
 
 #endif

@@ -1,5 +1,5 @@
 /*
- * The first test a builder writes: 27 characters sent where 24 fit, and what that does to the limits on either part.
+ * The first test a builder writes: 27 characters sent where 24 fit, and what that does to the limits on each part.
  * Exit status: 0 the limits are as before, 1 a write reached them, 2 the test itself went wrong and says nothing about
  * the firmware.
  */
@@ -43,7 +43,7 @@ static int label_on(uint8_t part, const char *name)
 {
     sent = 0; memset(array, 0, sizeof array);       /* every limit 0 */
     call(crep_new(&chip, part, 0));                 /* select 0 */
-    chip.pel = 1;                                   /* as after the byte 02h at FFFFh: data is taken */
+    chip.pel = 1;                                   /* as after 02h at FFFFh: data is taken; an X24F129 does not ask */
     wires(1, 1); wires(1, 0);                       /* START */
     send(0xa0); send(0x00); send(0x06);             /* write, from byte 6 of gate 0: its label */
     for (int i = 0; i < 27; i++) send('A' + i);     /* your firmware's mistake */
@@ -59,6 +59,8 @@ static int label_on(uint8_t part, const char *name)
 
 int main(void)
 {
-    int first = label_on(CREP_X24128, "X24128"), second = label_on(CREP_X24F128, "X24F128");
-    return first || second;
+    int hits = label_on(CREP_X24128, "X24128");
+    hits += label_on(CREP_X24F128, "X24F128");
+    hits += label_on(CREP_X24F129, "X24F129");
+    return hits > 0;
 }

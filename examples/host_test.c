@@ -1,9 +1,11 @@
 /*
  * A firmware's test on the host: the driver of driver.c runs on the board of board.c in place of a panel. It writes a
  * gate's record and reads it back, shows what a label of 27 characters does, hangs the bus and frees it, plays the
- * events of crep_send, adds a gate in the first free sector, loses its power in a cycle, and gives a gate a label with
- * accents. Prints a report in UTF-8; the exit status is 1 where a step did not go as expected, 2 where the test itself
- * went wrong.
+ * events of crep_send, adds a gate in the first free sector, loses its power in a cycle, gives a gate a label with
+ * accents, and runs on a part without a register. Prints a report in UTF-8; the exit status is 1 where a step did not
+ * go as expected, 2 where the test itself went wrong.
+ *
+ * new_panel says which part the panel has, for the board and for the driver alike: name your own there.
  */
 #include <stdio.h>
 #include <string.h>
@@ -12,13 +14,28 @@
 #include "driver.h"
 #include "latin1.h"
 
-enum { GATE = 7, SENT = 17, LOCKED = 511, OLD_GATES = 3, SELECT = 2, POLLS = 3 };
+enum { GATE = 7, SENT = 17, FROM_3000H = 384, LAST = 511, OLD_GATES = 3, SELECT = 2, POLLS = 3 };
 
 static const char label[] = "NORTH YARD";
 static const char long_label[] = "NORTH YARD, DELIVERIES ONLY";
 static uint8_t record[CREP_RECORD];
 static uint8_t *const sector = board.array + GATE * CREP_RECORD;
+static uint8_t part;
 static int wrong;
+
+/* A panel with this part: the board has such a chip, and the driver is told of it. */
+static void new_panel(uint8_t fitted)
+{
+    part = fitted;
+    board_new(part, SELECT);
+    board.polls = POLLS;
+}
+
+/* The kit's events for the panel's part, played by the driver. */
+static int send_record(unsigned gate, const uint8_t *bytes)
+{
+    return memory_send_record(part, SELECT, (uint16_t)gate, bytes);
+}
 
 /* Prints a step of the report, and counts it where it is not as expected. */
 static void step(int good, const char *text)
@@ -79,7 +96,7 @@ static void report_record(void)
     int32_t closed, opened, travel;
 
     printf("1. A gate's record goes over the wires and comes back\n");
-    step(memory_enable(SELECT) && board_note() == CREP_NOTE_LATCH, "02h to the register: PEL set (note 3)");
+    step(memory_enable(part, SELECT) && board_note() == CREP_NOTE_LATCH, "02h to the register: PEL set (note 3)");
     board_taken(crep_record_write(record, sizeof record, 150, 900, (const uint8_t *)label, sizeof label - 1));
     board_taken(crep_record_limits(record, sizeof record, 150, -200));
     step(memcmp(record + 6, label, sizeof label - 1) == 0,
@@ -121,12 +138,12 @@ static void report_long_label(void)
          "the kit refuses to read it (13, sum wrong): no gate moves by it");
 }
 
-static int sector_is_all(uint8_t byte)
+static int sector_is_all(unsigned gate, uint8_t byte)
 {
     int i, same = 0;
 
     for (i = 0; i < CREP_RECORD; i++)
-        same += sector[i] == byte;
+        same += board.array[gate * CREP_RECORD + i] == byte;
     return same == CREP_RECORD;
 }
 
@@ -135,17 +152,16 @@ static void report_other_part(void)
     int32_t closed, opened, travel;
 
     printf("   The same firmware on an X24F128\n");
-    board_new(CREP_X24F128, SELECT);
-    board.polls = POLLS;
-    step(memory_enable(SELECT) && memory_write_sector(SELECT, GATE, record) && board_note() == CREP_NOTE_STORED,
+    new_panel(CREP_X24F128);
+    step(memory_enable(part, SELECT) && memory_write_sector(SELECT, GATE, record) && board_note() == CREP_NOTE_STORED,
          "32 bytes: stored (note 1)");
-    step(send_long_label() && board_note() == CREP_NOTE_NOT_32 && sector_is_all(0xff),
+    step(send_long_label() && board_note() == CREP_NOTE_NOT_32 && sector_is_all(GATE, 0xff),
          "27 bytes: the sector is spoilt (note 5), cycle waited out");
     show_sector();
     step(read_gate(&closed, &opened, &travel) == CREP_OK && travel == 0,
          "read back: a free record, so the gate is gone and nothing is refused");
     board.chip.spoil = 0x00;
-    step(send_long_label() && board_note() == CREP_NOTE_NOT_32 && sector_is_all(0x00)
+    step(send_long_label() && board_note() == CREP_NOTE_NOT_32 && sector_is_all(GATE, 0x00)
          && read_gate(&closed, &opened, &travel) == CREP_REFUSED_STATE_BYTE,
          "again, with 00h as the chip's spoil byte: the kit refuses to read it (12)");
     step(memory_write_sector(SELECT, GATE, record) && board_note() == CREP_NOTE_STORED
@@ -198,11 +214,10 @@ static int comes_back(unsigned gate)
     return memory_read_sector(SELECT, gate, bytes) && memcmp(bytes, record, sizeof bytes) == 0;
 }
 
-static void send_on(uint8_t part, const char *text)
+static void send_on(uint8_t fitted, const char *text)
 {
-    board_new(part, SELECT);
-    board.polls = POLLS;
-    step(memory_send_record(SELECT, SENT, record) && board_note() == CREP_NOTE_STORED, text);
+    new_panel(fitted);
+    step(send_record(SENT, record) && board_note() == CREP_NOTE_STORED, text);
     step(comes_back(SENT), "read back over the wires: the record");
 }
 
@@ -215,10 +230,10 @@ static void report_sender(void)
     printf("4. crep_send spells the messages and the driver plays them: gate 17\n");
     send_on(CREP_X24128, "X24128: 39 bytes acknowledged, stored (note 1), cycle waited out");
     send_on(CREP_X24F128, "X24F128: the same");
-    step(!memory_send_record(SELECT, SENT, copy) && comes_back(SENT),
+    step(!send_record(SENT, copy) && comes_back(SENT),
          "a record with a limit changed past the kit: its sum is wrong, nothing is sent");
     board.chip.bl = 1;
-    step(memory_send_record(SELECT, LOCKED, record) && board_note() == CREP_NOTE_LOCKED && !comes_back(LOCKED),
+    step(send_record(LAST, record) && board_note() == CREP_NOTE_LOCKED && !comes_back(LAST),
          "gate 511 with BL 1: every byte acknowledged, but the sector is locked and stays (note 4)");
     printf("\n");
 }
@@ -257,12 +272,11 @@ static void report_map(void)
     unsigned gate;
 
     printf("5. A gate is added in the first free sector\n");
-    board_new(CREP_X24F128, SELECT);
-    board.polls = POLLS;
+    new_panel(CREP_X24F128);
     load_image();
     gate = first_free();
     step(gate == OLD_GATES, "an image with gates 0 to 2, its map built: sector 3 is the first free");
-    step(memory_send_record(SELECT, (uint16_t)gate, record) && board_note() == CREP_NOTE_STORED && comes_back(gate),
+    step(send_record(gate, record) && board_note() == CREP_NOTE_STORED && comes_back(gate),
          "the record is sent there: stored (note 1), read back over the wires");
     step(first_free() == gate + 1 && map_is_true(),
          "the map has followed: sector 4 is next, and building it again gives the same");
@@ -279,7 +293,7 @@ static int cut_off(const uint8_t *bytes, uint32_t choices)
     int begun;
 
     memcpy(before, sector, sizeof before);
-    begun = memory_enable(SELECT) && memory_write(SELECT, GATE * CREP_RECORD, bytes, CREP_RECORD)
+    begun = memory_enable(part, SELECT) && memory_write(SELECT, GATE * CREP_RECORD, bytes, CREP_RECORD)
         && board_note() == CREP_NOTE_STORED && memcmp(sector, before, sizeof before) == 0;
     board_cut(choices);
     return begun;
@@ -306,7 +320,7 @@ static void report_cut(void)
     uint8_t changed[CREP_RECORD];
 
     printf("6. The power fails in the cycle\n");
-    board_new(CREP_X24F128, SELECT);
+    new_panel(CREP_X24F128);
     memcpy(sector, record, sizeof record);
     board_map();
     board.polls = BOARD_NEVER;
@@ -351,7 +365,7 @@ static uint8_t labelled_utf8(const char *text, size_t n)
 /* Sends the record at hand, and reads into bytes what the chip then holds. */
 static int send_and_read(uint8_t *bytes)
 {
-    return memory_send_record(SELECT, GATE, record) && board_note() == CREP_NOTE_STORED
+    return send_record(GATE, record) && board_note() == CREP_NOTE_STORED
         && memory_read_sector(SELECT, GATE, bytes);
 }
 
@@ -371,8 +385,7 @@ static void report_accents(void)
     uint8_t bytes[CREP_RECORD] = { 0 };
 
     printf("7. A label with accents\n");
-    board_new(CREP_X24F128, SELECT);
-    board.polls = POLLS;
+    new_panel(CREP_X24F128);
     step(labelled_utf8(typed, 12) == CREP_OK, "15 bytes of UTF-8, converted into 12 of ISO 8859-1: the kit takes them");
     step(send_and_read(bytes) && name_is(bytes, typed),
          "the record is sent: stored (note 1), read back over the wires, its name is as typed");
@@ -387,11 +400,47 @@ static void report_accents(void)
     printf("\n");
 }
 
+/* The events for another part than the panel's, with a record in sector 511 before them. */
+static void report_wrong_part(void)
+{
+    step(send_record(LAST, record) && board_note() == CREP_NOTE_STORED && comes_back(LAST),
+         "gate 511: stored (note 1)");
+    step(!memory_send_record(CREP_X24F128, SELECT, GATE, record) && board_note() == CREP_NOTE_NOT_32
+         && memory_wait(SELECT, 100) && sector_is_all(LAST, 0xff) && !comes_back(GATE),
+         "the 713 events for an X24F128: 02h at FFFFh spoils gate 511 (note 5), and gate 7 is not stored");
+    new_panel(CREP_X24F128);
+    step(!memory_send_record(CREP_X24F129, SELECT, GATE, record) && board_note() == CREP_NOTE_NONE && !comes_back(GATE),
+         "on an X24F128 the 636 events for an X24F129: PEL is not set, gate 7 is not stored");
+}
+
+static void report_no_register(void)
+{
+    uint8_t changed[CREP_RECORD];
+
+    printf("8. A panel with an X24F129, which has no register: its pin locks from gate 384 on, at 3000h\n");
+    new_panel(CREP_X24F129);
+    memcpy(changed, record, sizeof changed);
+    board_taken(crep_record_limits(changed, sizeof changed, 160, -200));
+    step(send_record(FROM_3000H, record) && board_note() == CREP_NOTE_STORED && comes_back(FROM_3000H),
+         "protect pin low, gate 384: 35 bytes acknowledged, stored (note 1), read back over the wires");
+    board.pin = 1;
+    step(send_record(FROM_3000H, changed) && board_note() == CREP_NOTE_LOCKED && comes_back(FROM_3000H),
+         "pin high, another record for it: every byte acknowledged, but the sector is locked and stays (note 4)");
+    step(memory_write(SELECT, FROM_3000H * CREP_RECORD, changed, 20) && board_note() == CREP_NOTE_LOCKED
+         && comes_back(FROM_3000H), "20 bytes for it: locked as well, so they spoil nothing (note 4)");
+    step(send_record(FROM_3000H - 1, record) && board_note() == CREP_NOTE_STORED && comes_back(FROM_3000H - 1),
+         "gate 383: not locked, stored (note 1)");
+    board.pin = 0;
+    step(send_record(FROM_3000H, changed) && board_note() == CREP_NOTE_STORED && !comes_back(FROM_3000H),
+         "pin low again, gate 384: not locked any more, stored (note 1)");
+    report_wrong_part();
+    printf("\n");
+}
+
 int main(void)
 {
     printf("Gate memory on the bench: X24128, select %d, gate %d in sector %d\n\n", SELECT, GATE, GATE);
-    board_new(CREP_X24128, SELECT);
-    board.polls = POLLS;
+    new_panel(CREP_X24128);
     report_record();
     report_long_label();
     report_other_part();
@@ -400,6 +449,7 @@ int main(void)
     report_map();
     report_cut();
     report_accents();
+    report_no_register();
     if (wrong)
         printf("%d steps WRONG\n", wrong);
     else

@@ -1,10 +1,11 @@
 /*
- * The power fails while a gate's record is overwritten. The 713 events of crep_send put a new record over an old one;
- * the supply is lost before the first of them, between any two and after the last, and comes back with all, none or
- * half of what waited written, as after the events 9, 10 and 11. Then random choices, at the one point where choices
- * count: in the cycle. Each time start-up code says what it makes of the gate.
+ * The power fails while a gate's record is overwritten. The events of crep_send put a new record over an old one; the
+ * supply is lost before the first of them, between any two and after the last, and comes back with all, none or half of
+ * what waited written, as after the events 9, 10 and 11. Then random choices, at the one point where choices count: in
+ * the cycle. Each time start-up code says what it makes of the gate.
  *
- * Put your own start-up code into start_up, the first function: it is what must live with all this.
+ * Put your own start-up code into start_up, the first function: it is what must live with all this. PART is the part
+ * that your panel has.
  *
  * Exit status: 0; 1 where a cut changed another sector, left a byte that is neither old nor new, or made the board's
  * map untrue; 2 where the test itself went wrong.
@@ -16,7 +17,10 @@
 #include "driver.h"
 #include "latin1.h"
 
-enum { GATE = 7, SELECT = 2, IN_CYCLE = CREP_SEND - 1, RANDOM = 1000 };
+enum { PART = CREP_X24F128, SELECT = 2, GATE = 7, RANDOM = 1000 };
+
+/* What crep_send writes for the part; before the last event, CREP_DONE, the cycle runs. */
+enum { EVENTS = PART == CREP_X24F129 ? CREP_SEND_X24F129 : CREP_SEND, IN_CYCLE = EVENTS - 1 };
 
 /* What start-up code says: the record is taken, there is no gate, or a reason of its own to do neither, 1 to 255. */
 enum { TAKEN = 0, NO_ANSWER = 255, FREE = 256 };
@@ -39,7 +43,7 @@ static int start_up(uint8_t *bytes)
 
 /* ---- The panel before the cut ---- */
 
-static uint8_t image[CREP_ARRAY], new_record[CREP_RECORD], events[CREP_SEND];
+static uint8_t image[CREP_ARRAY], new_record[CREP_RECORD], events[EVENTS];
 static const uint8_t *const old_record = image + GATE * CREP_RECORD;
 
 static void make_record(uint8_t *record, int32_t closed, int32_t opened, const char *label)
@@ -57,7 +61,7 @@ static void make_panel(void)
         make_record(image + gate * CREP_RECORD, gate, 1000, "ANOTHER");
     make_record(image + GATE * CREP_RECORD, 150, 900, "NORTH YARD");
     make_record(new_record, 160, 890, "NORTH ROAD");
-    board_taken(crep_send(SELECT, GATE, new_record, CREP_RECORD, events, sizeof events, &n));
+    board_taken(crep_send(PART, SELECT, GATE, new_record, CREP_RECORD, events, sizeof events, &n));
 }
 
 /* The cycle ends where CREP_DONE stands, and the board ends none. */
@@ -65,7 +69,7 @@ static void send_events(unsigned n)
 {
     unsigned i;
 
-    board_new(CREP_X24F128, SELECT);
+    board_new(PART, SELECT);
     board.polls = BOARD_NEVER;
     memcpy(board.array, image, sizeof image);
     board_map();
@@ -138,7 +142,7 @@ static int cut_after(unsigned n, uint32_t choices)
 enum { ALL, NONE, HALF, SETS, CHANCE = SETS, COLUMNS };
 
 static const uint32_t choices_of[SETS] = { 0xffffffffu, 0, 0xffff };
-static int outcome[CREP_SEND + 1][SETS];
+static int outcome[EVENTS + 1][SETS];
 static int count[OUTCOMES][COLUMNS];
 
 static void cut_everywhere(void)
@@ -146,7 +150,7 @@ static void cut_everywhere(void)
     unsigned n;
     int set;
 
-    for (n = 0; n <= CREP_SEND; n++)
+    for (n = 0; n <= EVENTS; n++)
         for (set = 0; set < SETS; set++) {
             outcome[n][set] = cut_after(n, choices_of[set]);
             count[outcome[n][set]][set]++;
@@ -222,8 +226,8 @@ static void print_runs(void)
     unsigned n, first = 0;
 
     print_head("power lost", SETS);
-    for (n = 0; n <= CREP_SEND; n++)
-        if (n == CREP_SEND || memcmp(outcome[n], outcome[n + 1], sizeof outcome[n]) != 0) {
+    for (n = 0; n <= EVENTS; n++)
+        if (n == EVENTS || memcmp(outcome[n], outcome[n + 1], sizeof outcome[n]) != 0) {
             print_run(first, n);
             first = n + 1;
         }

@@ -1,6 +1,6 @@
 /*
- * crepulanter.h: a model of the X24128 and X24F128 memory chips, gate records, the events that send one and the map of
- * free sectors, for tests that run on the host.
+ * crepulanter.h: a model of the X24128, X24F128 and X24F129 memory chips, gate records, the events that send one and
+ * the map of free sectors, for tests that run on the host.
  * C99 or C++98 and later; the library behind it, libcrepulanter.a, links on x86-64 Linux.
  *
  * Let your bit-banging driver call crep_event in place of its port pins, and read in the answers what the chip would
@@ -43,11 +43,19 @@
  *     stays busy for ever, deaf to the wires.
  *   - A power-up in a cycle is the supply lost in it: each byte of the waiting sector is then the old or the new one,
  *     as the event byte or the choices of crep_power_up say, and every other byte of the array is kept.
- *   - An X24F128 takes whole sectors. A load of fewer or more than 32 bytes spoils its sector, unless that is locked:
- *     after the cycle (note 5) neither the load nor what stood there before is left, all 32 bytes are chip.spoil. To
- *     break a write off make a START and then a STOP: the START drops the load (note 7), a STOP alone commits it.
- *   - A write that ends in note 0 was not taken: PEL is not set, or the slave byte names another select, or the chip is
- *     busy, or a call was refused and its result dropped. The missing acknowledge tells which byte it was.
+ *   - An X24F128 and an X24F129 take whole sectors. A load of fewer or more than 32 bytes spoils its sector, unless
+ *     that is locked: after the cycle (note 5) neither the load nor what stood there before is left, all 32 bytes are
+ *     chip.spoil. To break a write off make a START and then a STOP: the START drops the load (note 7), a STOP alone
+ *     commits it.
+ *   - An X24128 and an X24F128 take data bytes while PEL is 1: send 02h to FFFFh, the register, after each power-up. An
+ *     X24F129 has no register and no PEL and always takes them. FFFFh is 3FFFh there: 02h sent to it is a load of one
+ *     byte and, with the protect pin low, spoils sector 511. So a driver has to know which part the panel has.
+ *   - In an X24128 and an X24F128 BL locks, whatever the protect pin is. In an X24F129 the pin locks, from 3000h on. It
+ *     counts in one sample alone, that of the STOP. High there: nothing is written (note 4). Low there: the cycle
+ *     begins, and the pin is not asked again until CREP_DONE.
+ *   - A write that ends in note 0 was not taken: PEL is not set (an X24F129 has none), or the slave byte names another
+ *     select, or the chip is busy, or a call was refused and its result dropped. The missing acknowledge tells which
+ *     byte it was.
  *   - Letting SDA go while SCL is high is a STOP, and a STOP can commit a load. Where a bus hangs, do not tidy the pins
  *     first: crep_recover takes the chip as it was left.
  *   - crep_recover ends with SCL high and SDA pulled, its START made: a driver that keeps its own idea of its pins sets
@@ -68,8 +76,8 @@
 extern "C" {
 #endif
 
-#define CREP_VERSION "0.8.0"
-#define CREP_VERSION_NUMBER 800         /* the same for #if: 10000 * first + 100 * second + third */
+#define CREP_VERSION "0.9.0"
+#define CREP_VERSION_NUMBER 900         /* the same for #if: 10000 * first + 100 * second + third */
 
 /* Before a call whose result must not be dropped: the compiler warns where it is. */
 #if defined(__GNUC__)
@@ -89,13 +97,15 @@ extern "C" {
 #define CREP_LABEL 24           /* the longest label: bytes, each one a character */
 #define CREP_TRACE 65536        /* the longest trace of one crep_run or crep_map_run */
 #define CREP_PULSES 10          /* the most pulses that crep_recover makes */
-#define CREP_SEND 713           /* events that crep_send writes */
+#define CREP_SEND 713           /* events that crep_send writes for an X24128 or an X24F128, the most for any part */
+#define CREP_SEND_X24F129 636   /* and for an X24F129, which has no PEL to set */
 #define CREP_STATE 151          /* bytes of a struct crep_chip */
 
 /* ---- Parts, events, answers ---- */
 
 #define CREP_X24128 0           /* stores a load of any length */
 #define CREP_X24F128 1          /* stores 32 bytes, any other load spoils its sector; the part of the standard chip */
+#define CREP_X24F129 2          /* as the X24F128, but no register, no PEL; 3000h-3FFFh locked while the pin is high */
 
 #define CREP_SCL 1              /* in a sample: the clock is high */
 #define CREP_SDA 2              /* in a sample: the master lets the data wire go */
@@ -114,8 +124,8 @@ extern "C" {
 #define CREP_NOTE_STORED 1      /* array cycle begun: the chip is busy, CREP_DONE stores the loaded bytes */
 #define CREP_NOTE_REGISTER 2    /* register cycle begun: the chip is busy, CREP_DONE sets PPEN and BL */
 #define CREP_NOTE_LATCH 3       /* PEL or RPEL set or cleared by a register byte */
-#define CREP_NOTE_LOCKED 4      /* the sector is locked: nothing written */
-#define CREP_NOTE_NOT_32 5      /* X24F128, not 32 bytes: array cycle begun, busy, CREP_DONE spoils its sector */
+#define CREP_NOTE_LOCKED 4      /* the sector is locked, by BL, in an X24F129 by the pin: nothing written */
+#define CREP_NOTE_NOT_32 5      /* X24F128 or X24F129, not 32 bytes: array cycle begun, CREP_DONE spoils its sector */
 #define CREP_NOTE_NOT_TAKEN 6   /* register byte not taken: RPEL not set before, reserved bits, or PPEN with the pin */
 #define CREP_NOTE_DROPPED 7     /* loaded bytes dropped by a START, a misplaced STOP or a second register byte */
 
@@ -128,7 +138,7 @@ extern "C" {
  *     crep_run            1 2 4 5 6              crep_record_read    7 12 13 14
  *     crep_power_up       1 2                    crep_name           none
  *     crep_recover        1 2                    crep_map_build      1 18
- *     crep_send           7 12 13 14 15 16 17    crep_map_first      18
+ *     crep_send           7 12 13 14 15 16 3 17  crep_map_first      18
  *     crep_map_event      1 18 2 6               crep_map_power_up   1 18 2
  *     crep_map_run        1 18 2 4 5 6
  *
@@ -144,7 +154,7 @@ extern "C" {
 #define CREP_OK 0
 #define CREP_REFUSED_ARRAY_LENGTH 1     /* array_len is not 16384 */
 #define CREP_REFUSED_CHIP 2             /* a field of the chip is out of its range */
-#define CREP_REFUSED_PART_OR_SELECT 3   /* part above 1 or select above 7 */
+#define CREP_REFUSED_PART_OR_SELECT 3   /* crep_new: part above 2 or select above 7; crep_send: part above 2 */
 #define CREP_REFUSED_TRACE_LENGTH 4     /* trace_len above 65536 */
 #define CREP_REFUSED_ANSWERS_LENGTH 5   /* answers_len below trace_len */
 #define CREP_REFUSED_EVENT 6            /* an event byte above 11 */
@@ -158,7 +168,7 @@ extern "C" {
 #define CREP_REFUSED_LAYOUT 14          /* length, label, padding or limits are against the layout */
 #define CREP_REFUSED_GATE 15            /* gate above 511 */
 #define CREP_REFUSED_SELECT 16          /* crep_send: select above 7 */
-#define CREP_REFUSED_EVENTS_LENGTH 17   /* crep_send: trace_len below 713 */
+#define CREP_REFUSED_EVENTS_LENGTH 17   /* crep_send: trace_len below 713, or below 636 for an X24F129 */
 #define CREP_REFUSED_MAP_LENGTH 18      /* map_len is not 64 */
 
 /* ---- The chip ---- */
@@ -194,7 +204,7 @@ extern "C" {
  * call refuse with 2. A flag is 0 or 1, anything else is out of range. Begin with crep_new and set fields then: later
  * versions add fields at the end.
  *
- *     part          CREP_X24128 or CREP_X24F128                                                  0-1
+ *     part          CREP_X24128, CREP_X24F128 or CREP_X24F129                                    0-2
  *     select        the chip's S2 S1 S0 pins                                                     0-7
  *     ppen          register: the protect pin guards the register's PPEN and BL (also WPEN)      flag
  *     bl            register: locks from 0 nothing, 1 3000h, 2 2000h, 3 0000h                    0-3
@@ -220,6 +230,8 @@ extern "C" {
  *     wait_places[i]     place i of the waiting sector takes a byte                              flag
  *     wait_bytes[i]      that byte; 0 from a STOP where it takes none                            any
  *
+ * An X24F129 carries ppen, bl, rpel, pel and mark and does not read them: two that differ in these alone answer alike.
+ * Out of range they are refused with 2 there too, and they are written as in the other parts.
  * No event and no power-up changes spoil; a cycle takes it at its STOP. A sector spoilt with FFh reads as a free
  * record; set chip.spoil after crep_new to have it refused, with 13 for A5h and with 12 for any other byte.
  */
@@ -231,6 +243,7 @@ struct crep_chip {
 
 /*
  * Makes a new chip: PPEN 0, BL 0, spoil FFh, just powered up (standby, last SCL low, last line high, nothing waits).
+ * part is CREP_X24128, CREP_X24F128 or CREP_X24F129.
  * Refuses with 3, and then makes the standard chip, an X24F128 with select 0 whatever was asked for.
  */
 CREP_CHECKED uint8_t crep_new(struct crep_chip *chip, uint8_t part, uint8_t select);
@@ -316,23 +329,38 @@ uint8_t crep_name(const uint8_t *record, size_t record_len, const uint8_t *stand
 /* ---- Sending a record ---- */
 
 /*
- * Writes into trace the 713 events that send a gate's record: a message that sets PEL (02h to the register), a message
- * with the 32 bytes at address 32 * gate, then CREP_DONE; the protect pin is low in all. *events is CREP_SEND, and the
- * bytes of trace past it stay. It is the firmware's own routine and needs no chip: a driver plays the samples on its
- * two pins and waits out the cycle where CREP_DONE stands; crep_run plays them on the model.
+ * Writes into trace the events that send a gate's record to a chip of this part and select: a message that sets PEL
+ * (02h to the register), left out for an X24F129; a message with the 32 bytes at address 32 * gate; then CREP_DONE. The
+ * protect pin is low in all. *events is their number, and the bytes of trace past them stay; CREP_SEND bytes are room
+ * for every part. It is the firmware's own routine and needs no chip: a driver plays the samples on its two pins and
+ * waits out the cycle where CREP_DONE stands; crep_run plays them on the model.
  *
- * They are for a chip of either part with the same select, idle in standby, RPEL 0, its load empty and the data wire
- * high, as crep_new and a power-up leave it. All 39 bytes are acknowledged. After CREP_DONE, event 712, an unlocked
- * sector holds the record (note 3 at event 76, note 1 at 711), a locked one stays (note 4 at 711), and every other byte
- * of the array is kept. The chip is idle in standby again, PEL 1, PPEN and BL as before.
- * A power-up in between keeps every other sector, and this one too unless it comes in the cycle, between events 711 and
- * 712: then each place holds its old byte or its new one, as chosen. examples/power_cut.c tries every point.
- * WARNING: on a chip with RPEL 1 the first message is a register write that sets PPEN 0 and BL 0: it unlocks the chip,
- * and the record is not stored (note 2 at event 76, no acknowledge after it). A power-up clears RPEL, and so does a
- * write to any unlocked sector.
- * Refuses with 7, 12 (here for a free record too), 13, 14 by reading the record, then 15, 16, 17; *events is then 0.
+ *                            X24128, X24F128        X24F129
+ *     *events                713, CREP_SEND         636, CREP_SEND_X24F129
+ *     bytes acknowledged     39                     35
+ *     STOP that sets PEL     event 76, note 3       none
+ *     STOP of the record     event 711, note 1      event 634, note 1
+ *         sector locked      event 711, note 4      with the pin low none is
+ *     CREP_DONE              event 712              event 635
+ *
+ * They are for a chip of the same part and select, idle in standby, RPEL 0 (in an X24F129 any), its load empty and the
+ * data wire high, as crep_new and a power-up leave it. After CREP_DONE an unlocked sector holds the record, a locked
+ * one stays, and every other byte of the array is kept. The chip is idle in standby again, PEL 1 (in an X24F129 as
+ * before), PPEN and BL as before.
+ * A power-up in between keeps every other sector, and this one too unless it comes in the cycle, between the STOP of
+ * the record and CREP_DONE: then each place holds its old byte or its new one, as chosen. examples/power_cut.c tries
+ * every point.
+ * WARNING: part has to be the chip's. The 713 events spoil sector 511 of an X24F129: their first message is there a
+ * load of one byte at 3FFFh (note 5 at event 76). Its cycle makes the chip deaf to the second message, so the record is
+ * not stored either. The 636 events set no PEL: in an X24128 or X24F128 with PEL 0 the first byte of the record is not
+ * acknowledged and nothing is stored; with PEL 1 the record is stored.
+ * WARNING: in an X24128 or X24F128 with RPEL 1 the first message is a register write that sets PPEN 0 and BL 0: it
+ * unlocks the chip, and the record is not stored (note 2 at event 76, no acknowledge after it). A power-up clears RPEL,
+ * and so does a write to any unlocked sector.
+ * Refuses with 7, 12 (here for a free record too), 13, 14 by reading the record, then 15, 16, 3 for the part, 17 for a
+ * trace_len below the number of events; *events is then 0.
  */
-CREP_CHECKED uint8_t crep_send(uint8_t select, uint16_t gate, const uint8_t *record, size_t record_len,
+CREP_CHECKED uint8_t crep_send(uint8_t part, uint8_t select, uint16_t gate, const uint8_t *record, size_t record_len,
                                uint8_t *trace, size_t trace_len, uint16_t *events);
 
 /* ---- The map of free sectors ---- */
@@ -429,7 +457,7 @@ static inline const char *crep_refusal_text(int refusal)
         "length, label, padding or limits against the layout",
         "gate number above 511",
         "select above 7",
-        "buffer shorter than 713 events",
+        "buffer shorter than 713 events, X24F129: 636",
         "map is not 64 bytes"
     };
 
