@@ -101,22 +101,29 @@ static void a_locked_sector_stays(void **state)
     assert_int_equal(board.array[GATE * CREP_RECORD], 0xff);
 }
 
-/* The driver plays the events of crep_send as they are, up to the wait for the cycle. */
-static void the_kit_sends_a_record(void **state)
+/* On a new board with this part the driver plays the events of crep_send as they are, up to the wait for the cycle;
+ * returns their number. */
+static int plays_what_the_kit_spells(uint8_t part, const uint8_t *record)
 {
     static uint8_t trace[CREP_TRACE], events[CREP_SEND];
     uint16_t n;
 
     board.trace = trace;
     board.trace_room = sizeof trace;
-    board_new(PART, SELECT);
+    board_new(part, SELECT);
     board.polls = 3;
     board.trace_len = 0;
-    assert_true(memory_send_record(PART, SELECT, GATE, *state));
+    assert_true(memory_send_record(part, SELECT, GATE, record));
     assert_int_equal(board_note(), CREP_NOTE_STORED);
-    assert_memory_equal(board.array + GATE * CREP_RECORD, *state, CREP_RECORD);
-    board_taken(crep_send(PART, SELECT, GATE, *state, CREP_RECORD, events, sizeof events, &n));
+    assert_memory_equal(board.array + GATE * CREP_RECORD, record, CREP_RECORD);
+    board_taken(crep_send(part, SELECT, GATE, record, CREP_RECORD, events, sizeof events, &n));
     assert_memory_equal(trace, events, n - 1);
+    return n;
+}
+
+static void the_kit_sends_a_record(void **state)
+{
+    assert_int_equal(plays_what_the_kit_spells(PART, *state), CREP_SEND);
 }
 
 /* With RPEL set the first message takes the locks away, when its cycle has ended, and the second is not heard: the
@@ -133,24 +140,13 @@ static void rpel_must_be_clear(void **state)
     assert_int_equal(board.chip.bl, 0);
 }
 
-/* An X24F129 has no PEL: the driver sets none, and the kit's events for it have one message. */
+/* An X24F129 has no PEL: the kit's events for it have one message, and the driver moves no pin to set one. */
 static void a_part_without_a_register(void **state)
 {
-    static uint8_t trace[CREP_TRACE], events[CREP_SEND];
-    uint16_t n;
-
-    board.trace = trace;
-    board.trace_room = sizeof trace;
-    board_new(CREP_X24F129, SELECT);
+    assert_int_equal(plays_what_the_kit_spells(CREP_X24F129, *state), CREP_SEND_X24F129);
     board.trace_len = 0;
     assert_true(memory_enable(CREP_X24F129, SELECT));
     assert_int_equal(board.trace_len, 0);
-    assert_true(memory_send_record(CREP_X24F129, SELECT, GATE, *state));
-    assert_int_equal(board_note(), CREP_NOTE_STORED);
-    assert_memory_equal(board.array + GATE * CREP_RECORD, *state, CREP_RECORD);
-    board_taken(crep_send(CREP_X24F129, SELECT, GATE, *state, CREP_RECORD, events, CREP_SEND_X24F129, &n));
-    assert_int_equal(n, CREP_SEND_X24F129);
-    assert_memory_equal(trace, events, n);
 }
 
 /* With the pin high gate 384, at 3000h, is kept, from a short load too, and gate 383 is written. */
