@@ -2,11 +2,13 @@
 -- locked byte.
 -- Assumes nothing.
 use Prim.Native.Nat.{ℕ, _+_, _%_, _≤_}
-use mathlib.Core.Bool.{Bool, true, false}
+use mathlib.Core.Bool.{Bool, true, false, false≢true}
 use mathlib.Core.List.{List, [], _∷_, _++_}
 use mathlib.Core.Path.{_≡_, refl, ap, _∙_, sym, subst, subst₂}
 use native.Mathlib.Omega.{arith}
+use borrow.Author.Tests.{le-leb}
 use lib.ListN.{length, getD, drop}
+use Rattle.parts.specs.Register.{hasRegister}
 use Rattle.parts.specs.Sector.{Bytes}
 use Rattle.parts.specs.Rows.{every, stepped}
 use Rattle.parts.proofs.ByteLaws.{same-bytes}
@@ -17,7 +19,7 @@ use Rattle.parts.specs.declared.phase.Phase.the-variants.{Standby}
 use Rattle.chip.specs.Chip.{chipFits, atPowerUp}
 use Rattle.chip.specs.Event.{next, programDone, refusal}
 use Rattle.chip.specs.Run.{World, world, step}
-use Rattle.chip.specs.View.{pinHigh}
+use Rattle.chip.specs.View.{pinHigh, pinsHigh}
 use Rattle.chip.specs.declared.wire.Event.the-variants.{ProgramDone}
 use Rattle.chip.proofs.EventLaws.{next-taken, taken-of, taken-so}
 use Rattle.chip.proofs.FitLaws.{up-fits, fits-of, fits-so}
@@ -131,3 +133,17 @@ demand-3 s w f p =
   where
     up : World
     up = world (atPowerUp (f .part) (f .select) (f .ppen) (f .bl) (f .spoil)) (f .array)
+
+-- For the part without a register it takes no more than this: not busy, the pin high in every sample, a read within 3000h-3FFFh
+pub demand-3-by-pin : (s : Scene) (w : World) → FromPowerUp w → hasRegister (w .chip .part) ≡ false → w .chip .busy ≡ false → pinsHigh (s .noise) ≡ true
+    → 0x3000 ≤ s .address → s .address ≤ 0x3fff → s .address + s .n ≤ 0x4000 → Promised s w
+demand-3-by-pin s w f none idle high from inside within =
+    demand-3 s w f
+    (record {
+      idle = idle;
+      ppen-set = λ has. absurd (false≢true (sym none ∙ has));
+      region-locked = λ has. absurd (false≢true (sym none ∙ has));
+      pin-high = high;
+      address-in = inside;
+      stays-locked = λ k l. rw none (le-leb 0x3000 ((s .address + k) % 0x4000) (omega arith));
+    })

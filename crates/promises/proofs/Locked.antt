@@ -52,25 +52,19 @@ module _ (e : Event) (es : List Event) (w : World) (wrote : writes (noteOf e w) 
       go false true one said h = began (fullOf (c .spoil)) (next-told e c (w .array) .five (eqb-true _ 5 said) .cycle)
       go false false one said h = absurd (false≢true h)
 
-  -- while it lasts, no sector waits that is locked at the pin of its STOP
-  still-open : Open (pinHigh e) (later .chip)
-  unfolding step
-  still-open busy = began-by _ open′
-    where
-      open′ : (load : Load) → Began load → openTo (later .chip .part) (later .chip .register .bl) (pinHigh e) (later .chip .wait .target) ≡ true
-      open′ load cycle =
-          let still : Still es then = busy-still es then only (cycle .began) in
-          let part : later .chip .part ≡ c .part = ran-same es then .0 ∙ next-same e c (w .array) .0 in
-          let bl : later .chip .register .bl ≡ c .register .bl = ap (λ (r : Register). r .bl) (still .register ∙ cycle .register) in
-          let waiting : later .chip .wait .target ≡ Sector (c .counter / 32) = ap (λ (u : Wait). u .target) (still .waiting ∙ cycle .waiting) in
-          rw (part, bl, waiting) (began-open (c .part) (c .register .bl) (pinHigh e) (c .counter) (cycle .writable .unlocked))
-
-  -- and part, BL and array are those of the STOP
+  -- while it lasts part, BL and array are those of the STOP
   same-then : (later .chip .part ≡ c .part) × (later .chip .register .bl ≡ c .register .bl) × (later .array ≡ w .array)
   unfolding step
   same-then = began-by _ (λ load cycle.
       let still : Still es then = busy-still es then only (cycle .began) in
       (ran-same es then .0 ∙ next-same e c (w .array) .0, ap (λ (r : Register). r .bl) (still .register ∙ cycle .register), still .array ∙ cycle .array))
+
+  -- and no sector waits that is locked at the pin of the STOP
+  still-open : Open (pinHigh e) (later .chip)
+  unfolding step
+  still-open busy = began-by _ (λ load cycle.
+      let waiting : later .chip .wait .target ≡ Sector (c .counter / 32) = ap (λ (u : Wait). u .target) (busy-still es then only (cycle .began) .waiting ∙ cycle .waiting) in
+      rw (same-then .0, same-then .1, waiting) (began-open (c .part) (c .register .bl) (pinHigh e) (c .counter) (cycle .writable .unlocked)))
 
   -- S8: from the event that begins a cycle of the array, over any samples, to whatever event ends it: each byte is kept that was locked, with the BL in force and the pin at the
   -- level of the STOP's own sample. What the pin does until then does not matter
