@@ -1,14 +1,16 @@
--- What is known of the first locked address without its table: where it lies past the table, and what holds of each entry holds of it. Of all
--- that is locked: a sector is locked whole, and the pin low locks nothing that the pin high does not. Assumes nothing.
-use Prim.Native.Nat.{ℕ, zero, suc, _%_, _<_, _≤_}
+-- What is known of the first locked address without its table: where it lies past the table, how it is computed inside, and what holds of each entry
+-- holds of it. Of all that is locked: a sector is locked whole, and the pin low locks nothing that the pin high does not. Assumes nothing.
+use Prim.Native.Nat.{ℕ, zero, suc, _-_, _*_, _^_, _%_, _<_, _≤_}
 use mathlib.Core.Bool.{Bool, true, false, cond, _&&_}
-use mathlib.Core.Path.{_≡_, refl, sym, ap₂}
-use mathlib.Core.List.{List, [], _∷_}
-use native.Mathlib.Nat.{lt-of-not-le, not-le-of-lt}
+use mathlib.Core.Path.{_≡_, refl, sym, _∙_, ap₂}
+use mathlib.Core.List.{[]}
+use native.Mathlib.Nat.{le-trans, lt-of-not-le, not-le-of-lt}
 use native.Mathlib.Omega.{arith}
 use borrow.Author.Tests.{leb-true, leb-false, le-leb, lt-leb}
 use lib.Dec.{leb}
-use lib.ListN.{length, getD, List·getD-eq-default}
+use lib.Bits.{bitAnd, and-le-l}
+use lib.ListN.{getD, List·getD-eq-default}
+use lib.Pow.{pow-mono}
 use Rattle.parts.specs.Locks.{firstLocked, lockTable, locked}
 use Rattle.parts.specs.Register.{hasRegister}
 use Rattle.parts.specs.Sector.{sectorStart}
@@ -41,18 +43,31 @@ first-past-bl zero bl h = List·getD-eq-default (getD lockTable 0 []) 0x4000 h
 first-past-bl (suc zero) bl h = List·getD-eq-default (getD lockTable 1 []) 0x4000 h
 first-past-bl (suc (suc part)) bl h = refl
 
--- within the table any default serves
-any-default : (l : List ℕ) (i d e : ℕ) → i < length l → getD l i d ≡ getD l i e
-any-default [] i d e h = absurd (omega arith)
-any-default (x ∷ l) zero d e h = refl
-any-default (x ∷ l) (suc i) d e h = any-default l i d e (omega arith)
+-- 800h doubled BL times is within the array, whatever a mask keeps of it
+pub doubled-fits : (bl mask : ℕ) → bl ≤ 3 → bitAnd (0x800 * 2 ^ bl % 0x10000) mask ≤ 0x4000
+doubled-fits bl mask b =
+    let power : 2 ^ bl ≤ 8 = pow-mono b in
+    le-trans (and-le-l (0x800 * 2 ^ bl % 0x10000) mask) (omega arith)
 
--- inside the table the first locked address is its entry
-pub first-inside : (part bl : ℕ) → part ≤ 1 → bl ≤ 3 → getD (getD lockTable part []) bl 0 ≡ firstLocked part bl
+-- the table's rows are alike
+first-alike : (part bl : ℕ) → part ≤ 1 → firstLocked 0 bl ≡ firstLocked part bl
 unfolding firstLocked
-first-inside zero bl p b = any-default (getD lockTable 0 []) bl 0 0x4000 (omega arith)
-first-inside (suc zero) bl p b = any-default (getD lockTable 1 []) bl 0 0x4000 (omega arith)
-first-inside (suc (suc part)) bl p b = absurd (omega arith)
+first-alike zero bl p = refl
+first-alike (suc zero) bl p = refl
+first-alike (suc (suc part)) bl p = absurd (omega arith)
+
+-- through a mask that drops the 800h of BL 0 and keeps what BL 1, 2 and 3 lock, it is what lies from the first locked address on
+pub first-computed : (mask : ℕ) → bitAnd 0x800 mask ≡ 0 → bitAnd 0x1000 mask ≡ 0x1000 → bitAnd 0x2000 mask ≡ 0x2000 → bitAnd 0x4000 mask ≡ 0x4000
+    → (part bl : ℕ) → part ≤ 1 → bl ≤ 3 → 0x4000 - bitAnd (0x800 * 2 ^ bl % 0x10000) mask ≡ firstLocked part bl
+unfolding firstLocked
+first-computed mask none one two all part bl p b = row bl b ∙ first-alike part bl p
+  where
+    row : (bl : ℕ) → bl ≤ 3 → 0x4000 - bitAnd (0x800 * 2 ^ bl % 0x10000) mask ≡ firstLocked 0 bl
+    row zero b = rw none
+    row (suc zero) b = rw one
+    row (suc (suc zero)) b = rw two
+    row (suc (suc (suc zero))) b = rw all
+    row (suc (suc (suc (suc bl)))) b = absurd (omega arith)
 
 -- a first locked address is the start of a sector
 pub first-starts : (part bl : ℕ) → firstLocked part bl % 32 ≡ 0

@@ -1,15 +1,9 @@
-// What is locked: the table of first locked addresses, and the one question that a stop asks, for every part.
+// What is locked: where the lock of BL begins, and the one question that a stop asks, for every part.
 ghost use mathlib.Core.Path.{_≡_};
 ghost use Rattle.parts.specs.Locks.{firstLocked, locked};
 use crate::register::has_register;
 
-// For each part with a register, then for BL 0 to 3: the first locked address, or 4000h where none is.
-const FIRST_LOCKED: [[u16; 4]; 2] = [
-    [0x4000, 0x3000, 0x2000, 0x0000],
-    [0x4000, 0x3000, 0x2000, 0x0000],
-];
-
-// The first locked address of a part at this BL, or 4000h.
+// The first locked address of a part at this BL, or 4000h: a formula in place of the definition's table.
 fn first_locked(part: u8, bl: u8) -> u16
     ensures { λ r. ⌜ r ≡ firstLocked part bl ⌝ }
 {
@@ -19,7 +13,8 @@ fn first_locked(part: u8, bl: u8) -> u16
     if 3 < bl {
         return 0x4000;
     }
-    FIRST_LOCKED[part as usize][bl as usize]
+    // BL 1, 2 and 3 lock the last 1000h, 2000h and 4000h bytes: 800h doubled BL times. The mask drops the 800h of BL 0.
+    0x4000 - ((0x800 << bl) & 0x7000)
 }
 
 // Whether an address is locked with the protect pin at this level: by BL, or by the pin where there is no register.
