@@ -76,8 +76,8 @@
 extern "C" {
 #endif
 
-#define CREP_VERSION "0.9.0"
-#define CREP_VERSION_NUMBER 900         /* the same for #if: 10000 * first + 100 * second + third */
+#define CREP_VERSION "0.9.1"
+#define CREP_VERSION_NUMBER 901         /* the same for #if: 10000 * first + 100 * second + third */
 
 /* Before a call whose result must not be dropped: the compiler warns where it is. */
 #if defined(__GNUC__)

@@ -27,6 +27,16 @@ static unsigned counter_of(const struct crep_chip *chip)
     return chip->counter_high * 256u + chip->counter_low;
 }
 
+/* The paper's first locked address at this level of the pin: by BL, or by the pin where there is no register. */
+static unsigned first_locked(const struct crep_chip *chip, int pin)
+{
+    static const unsigned by_bl[4] = { 0x4000, 0x3000, 0x2000, 0x0000 };
+
+    if (chip->part == CREP_X24F129)
+        return pin ? 0x3000 : 0x4000;
+    return by_bl[chip->bl];
+}
+
 /* A new chip of this part on an array of FFh, and an empty trace. */
 static void open_bench(const struct kit *kit, uint8_t part)
 {
@@ -307,6 +317,25 @@ static int case_8(const struct kit *kit)
     return good;
 }
 
+/* Every sector of every part, at each BL and level of the pin: note 4 from the first locked address on, else note 1. */
+static int every_sector_by_its_lock(const struct kit *kit)
+{
+    static const uint8_t bytes[32];
+    unsigned i, address;
+    int good = 1;
+
+    for (i = 0; i < 3 * 4 * 2; i++)
+        for (address = 0; address < CREP_ARRAY; address += 32) {
+            open_bench(kit, (uint8_t)(i / 8));
+            bench.chip.pel = 1;
+            bench.chip.bl = i / 2 % 4;
+            bench.wire.pin = i % 2;
+            wire_write(&bench.wire, 0, address, bytes, sizeof bytes);
+            good = good && last_note() == (address < first_locked(&bench.chip, bench.wire.pin) ? 1 : 4);
+        }
+    return good;
+}
+
 /* 9. Register 06h with PEL 0: note 6. */
 static int case_9(const struct kit *kit)
 {
@@ -445,8 +474,6 @@ static void attack(struct chance *chance)
  * noise. Returns the first locked address. */
 static unsigned noisy_bench(const struct kit *kit, struct chance *chance, uint8_t part)
 {
-    static const unsigned first[4] = { 0x4000, 0x3000, 0x2000, 0x0000 };
-
     open_bench(kit, part);
     bench.chip.select = (uint8_t)chance_below(chance, 8);
     if (part == CREP_X24F129)
@@ -457,7 +484,7 @@ static unsigned noisy_bench(const struct kit *kit, struct chance *chance, uint8_
     chance_fill(chance, bench.array, CREP_ARRAY);
     attack(chance);
     noise(chance, chance_below(chance, 2000));
-    return part == CREP_X24F129 ? 0x3000 : first[bench.chip.bl];
+    return first_locked(&bench.chip, 1);
 }
 
 /* A random read that goes on from the START that the recovery has made, pin free. */
@@ -1704,7 +1731,7 @@ static int header_agrees(const struct kit *kit)
     int first, second, third;
 
     (void)kit;
-    return strcmp(CREP_VERSION, "0.9.0") == 0 && sscanf(CREP_VERSION, "%d.%d.%d", &first, &second, &third) == 3
+    return strcmp(CREP_VERSION, "0.9.1") == 0 && sscanf(CREP_VERSION, "%d.%d.%d", &first, &second, &third) == 3
         && CREP_VERSION_NUMBER == 10000 * first + 100 * second + third
         && strcmp(crep_refusal_text(6), "an event byte above 11") == 0
         && strcmp(crep_refusal_text(17), "buffer shorter than 713 events, X24F129: 636") == 0
@@ -1724,6 +1751,7 @@ static const struct {
     { "6   27 bytes at 0006h reach byte 0", case_6 },
     { "7   X24F128: 31, 32, 33 bytes, and the array", case_7 },
     { "8   BL 1 and BL 2 at their edges", case_8 },
+    { "-   every part, BL, pin and sector: 4 or 1", every_sector_by_its_lock },
     { "9   register 06h with PEL 0", case_9 },
     { "10  read at 3FFFh, then 0000h", case_10 },
     { "11  stopped with SCL low: 10 pulses", case_11 },
