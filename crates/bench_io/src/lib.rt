@@ -1,4 +1,5 @@
 // What the bench programs share: event bytes come from standard input, the report of a chip goes to standard output.
+#![tactic(auto)]
 use chip::chip::Chip;
 use libc::{STDIN_FILENO, STDOUT_FILENO};
 

@@ -1,4 +1,5 @@
 // The bench on an X24128 with select 0, which takes loads of any length.
+#![tactic(auto)]
 use chip::chip::Chip;
 
 fn main() {

@@ -9,7 +9,7 @@ use parts::phase::Phase;
 use parts::register::{Register, Written, has_register};
 use parts::wait::Wait;
 
-#[derive(Drop)]
+#[derive(Clone, Copy)]
 pub struct Chip {
     // Chip::X24128, Chip::X24F128 or Chip::X24F129
     pub part: u8,
@@ -38,21 +38,21 @@ pub struct Chip {
 }
 
 // What a new chip answers.
-#[derive(Drop)]
+#[derive(Clone, Copy)]
 pub struct Made {
     pub refusal: u8,
     pub chip: Chip,
 }
 
 // The next chip, and the note of what made it.
-#[derive(Drop)]
+#[derive(Clone, Copy)]
 pub struct Moved {
     pub chip: Chip,
     pub note: u8,
 }
 
 // All that a stop can do to the register, and all that it can let wait.
-#[derive(Drop)]
+#[derive(Clone, Copy)]
 pub enum Effect {
     Nothing { note: u8 },
     Change(Written),

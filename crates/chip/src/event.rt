@@ -13,7 +13,7 @@ use parts::register::Register;
 use parts::wait::{EVERY_PLACE, Wait};
 
 // What one event answers.
-#[derive(Drop)]
+#[derive(Clone, Copy)]
 pub struct Answer {
     pub refusal: u8,
     pub chip: Chip,

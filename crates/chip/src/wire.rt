@@ -3,14 +3,14 @@ ghost use Rattle.std.specs.Prelude.{◌≡◌};
 ghost use Rattle.chip.specs.Wire.{line_of, edge_of};
 
 // The clock, the master's data where false pulls and true lets go, and the protect pin.
-#[derive(Drop)]
+#[derive(Clone, Copy)]
 pub struct Sample {
     pub scl: bool,
     pub sda: bool,
     pub pin: bool,
 }
 
-#[derive(Drop)]
+#[derive(Clone, Copy)]
 pub enum Event {
     Sample(Sample),
     ProgramDone,
@@ -19,7 +19,7 @@ pub enum Event {
 }
 
 // What a sample is, judged against the last levels.
-#[derive(Drop)]
+#[derive(Clone, Copy)]
 pub enum Edge {
     Quiet,
     Start,

@@ -1,4 +1,5 @@
 // The bytes of a chip as C keeps it: where each field stands, from a chip to its bytes and back, and which bytes are a chip's.
+#![tactic(auto)]
 pub mod at;
 mod packing;
 mod unpacking;

@@ -1,5 +1,6 @@
 // The kit for C: a chip is `at::SIZE` bytes of crate `chip_bytes` that the caller keeps, and each exported function answers for every byte and length
 // that it can be lent. include/crepulanter.h is the other side of this interface.
+#![tactic(auto)]
 mod chips;
 mod maps;
 mod records;

@@ -3,7 +3,7 @@ ghost use Rattle.std.specs.Prelude.{◌≡◌};
 ghost use Rattle.gate.specs.Answer.{zeros_of, given_of};
 
 // What reading a record finds.
-#[derive(Drop)]
+#[derive(Clone, Copy)]
 pub enum Read {
     // A gate: its limits, its travel and the length of its label as stored.
     Good {
@@ -21,7 +21,7 @@ pub enum Read {
 }
 
 // The values of an answer of reading: the number of the refusal, or 0; and what a good record holds, or zeros.
-#[derive(Drop)]
+#[derive(Clone, Copy)]
 pub struct Given {
     pub number: u8,
     pub closed: i16,
@@ -68,7 +68,7 @@ impl Read {
 }
 
 // The span of the name shown.
-#[derive(Drop)]
+#[derive(Clone, Copy)]
 pub struct Shown {
     // True in the record, false in the standard label.
     pub own: bool,

@@ -7,7 +7,7 @@ use crate::sectors::BYTES;
 use parts::phase::bit_of;
 
 // What first free finds.
-#[derive(Drop)]
+#[derive(Clone, Copy)]
 pub enum Found {
     // The first free sector, 0-511.
     Sector { number: u16 },

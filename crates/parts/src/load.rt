@@ -3,7 +3,7 @@ ghost use Rattle.std.specs.Prelude.{◌≡◌};
 ghost use Rattle.parts.specs.Load.{no_load, full_of, loaded};
 
 // 32 bytes, which places are loaded, and how many bytes came, where 33 means 33 or more.
-#[derive(Drop)]
+#[derive(Clone, Copy)]
 pub struct Load {
     // by place of the sector; 0 where none is loaded
     pub bytes: [u8; 32],
@@ -37,6 +37,7 @@ impl Load {
     }
 
     // The load with one byte more, at the place of the low five bits of `at`.
+    #[tactic(auto, unfolding(crate::specs::Load::loaded))]
     pub fn with(self, at: u16, byte: u8) -> Load
         ensures { result ≡ loaded self at byte }
     {

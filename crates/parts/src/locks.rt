@@ -5,6 +5,7 @@ ghost use Rattle.parts.specs.Locks.{first_locked, locked};
 use crate::register::has_register;
 
 // The first locked address of a part at this BL, or 4000h: a formula in place of the definition's table.
+#[tactic(auto, using(crate::proofs::LockLaws::first_past_part, crate::proofs::LockLaws::first_past_bl, crate::proofs::LockLaws::doubled_fits, crate::proofs::LockLaws::first_computed))]
 fn first_locked(part: u8, bl: u8) -> u16
     ensures { result ≡ first_locked part bl }
 {

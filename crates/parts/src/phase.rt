@@ -2,7 +2,7 @@
 ghost use Rattle.std.specs.Prelude.{◌≡◌, ◌≤◌};
 ghost use Rattle.parts.specs.Phase.{weight, phase_fits, phase_pulls, received, bit_of, risen};
 
-#[derive(Drop)]
+#[derive(Clone, Copy)]
 pub enum Phase {
     Standby,
     // receiving a byte, most significant bit first: how many bits came, and what they are so far
@@ -49,6 +49,7 @@ pub fn with_bit(got: u8, bit: bool) -> u8
 
 impl Phase {
     // Whether bits received and the bit being sent are in their ranges.
+    #[tactic(auto, unfolding(crate::specs::Phase::phase_fits))]
     pub fn fits(self) -> bool
         ensures { result ≡ phase_fits self }
     {
@@ -73,6 +74,7 @@ impl Phase {
     }
 
     // Whether a chip pulls here.
+    #[tactic(auto, unfolding(crate::specs::Phase::phase_pulls))]
     pub fn pulls(self) -> bool
         ensures { result ≡ phase_pulls self }
     {
@@ -97,6 +99,7 @@ impl Phase {
     }
 
     // The phase after a clock rise with this bit on the line.
+    #[tactic(auto, unfolding(crate::specs::Phase::risen))]
     pub fn risen(self, bit: bool) -> Phase
         ensures { result ≡ risen self bit }
     {

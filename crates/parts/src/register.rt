@@ -6,7 +6,7 @@ ghost use Rattle.parts.specs.Register.{has_register, register_byte, written, res
 use crate::phase::{bit_of, weigh};
 use crate::wait::Target;
 
-#[derive(Drop)]
+#[derive(Clone, Copy)]
 pub struct Register {
     // hardware protection: with the pin high at the stop, PPEN and BL are not written
     pub ppen: bool,
@@ -19,7 +19,7 @@ pub struct Register {
 }
 
 // What a register byte did at its stop: the register after it, what waits where a cycle began, and the note.
-#[derive(Drop)]
+#[derive(Clone, Copy)]
 pub struct Written {
     pub register: Register,
     pub target: Target,
@@ -64,6 +64,7 @@ impl Register {
     }
 
     // The rule for RPEL 0: 00h clears PEL, 02h sets it, 06h with PEL set sets RPEL.
+    #[tactic(auto, unfolding(crate::specs::Register::latch_written))]
     fn latch(self, byte: u8) -> Written
         ensures { result ≡ latch_written self byte }
     {
@@ -93,6 +94,7 @@ impl Register {
     }
 
     // The rule for RPEL 1: PPEN and BL of the byte wait, unless its low bits are wrong or the pin protects them.
+    #[tactic(auto, unfolding(crate::specs::Register::lock_written))]
     fn lock(self, byte: u8, pin: bool) -> Written
         ensures { result ≡ lock_written self byte pin }
     {
@@ -115,6 +117,7 @@ impl Register {
     }
 
     // What a register byte does at a rightly placed stop with the protect pin at this level.
+    #[tactic(auto, unfolding(crate::specs::Register::written))]
     pub fn written(self, byte: u8, pin: bool) -> Written
         ensures { result ≡ written self byte pin }
     {

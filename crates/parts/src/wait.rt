@@ -14,7 +14,7 @@ pub const NO_PLACE: u32 = 0x00000000;
 // The choices that take places 0 to 15.
 pub const FIRST_HALF: u32 = 0x0000ffff;
 
-#[derive(Drop)]
+#[derive(Clone, Copy)]
 pub enum Target {
     None,
     // a sector of the array, 0-511
@@ -24,7 +24,7 @@ pub enum Target {
 }
 
 // What a cycle will write at its end. The places and bytes belong to a sector.
-#[derive(Drop)]
+#[derive(Clone, Copy)]
 pub struct Wait {
     pub target: Target,
     // which of the 32 places take a byte
@@ -69,6 +69,7 @@ fn store(array: &mut [u8], start: usize, choices: u32, places: [bool; 32], bytes
 
 impl Target {
     // Whether the waiting sector and the waiting BL are in their ranges.
+    #[tactic(auto, unfolding(crate::specs::Wait::target_fits))]
     pub fn fits(self) -> bool
         ensures { result ≡ target_fits self }
     {
@@ -80,6 +81,7 @@ impl Target {
     }
 
     // Whether something waits.
+    #[tactic(auto, unfolding(crate::specs::Wait::waits))]
     pub fn waits(self) -> bool
         ensures { result ≡ waits self }
     {
@@ -126,6 +128,7 @@ impl Wait {
     }
 
     // What the end of the cycle leaves in the array: the chosen places of a waiting sector take their bytes.
+    #[tactic(auto, unfolding(crate::specs::Wait::reached))]
     pub fn end(self, array: &mut [u8], choices: u32)
         ensures { array.new ≡ end_array self choices array.old }
     {
@@ -144,6 +147,7 @@ impl Wait {
 
 impl Register {
     // The register at the end of the cycle: a waiting PPEN and BL are taken if the first choice is set.
+    #[tactic(auto, unfolding(crate::specs::Wait::locks_taken))]
     pub fn taken(self, target: Target, choices: u32) -> Register
         ensures { result ≡ locks_taken target choices self }
     {

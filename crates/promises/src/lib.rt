@@ -1,1 +1,2 @@
 // The promises: theorems over the definitions of the chip, its traces and its recovery. No code.
+#![tactic(auto)]

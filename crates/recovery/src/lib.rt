@@ -1,4 +1,5 @@
 // Freeing a hung bus: clock pulses with the data line let go until the line is high, then a start.
+#![tactic(auto)]
 ghost use Rattle.std.specs.Prelude.{◌≡◌, true, false};
 ghost use Rattle.chip.specs.Event.{refusal};
 ghost use Rattle.chip.specs.Wire.{sample};
@@ -9,7 +10,7 @@ use chip::chip::Chip;
 use trace::{run, sample_byte};
 
 // What recovery answers: the refusal, the chip, and the number of the first pulse after which the line was high.
-#[derive(Drop)]
+#[derive(Clone, Copy)]
 pub struct Recovered {
     pub refusal: u8,
     pub chip: Chip,
@@ -17,7 +18,7 @@ pub struct Recovered {
 }
 
 // A chip after its pulses, and their number.
-#[derive(Drop)]
+#[derive(Clone, Copy)]
 struct Pulsed {
     chip: Chip,
     pulses: u8,

@@ -1,5 +1,6 @@
 // What the bench prints: a chip is run on event bytes from an array of FFh, and the text is written on a lent page. A line takes at
 // most 7 bytes, so that every text is at most 28,695 bytes long and has room on a page of 32,768.
+#![tactic(auto)]
 ghost use Rattle.std.specs.Prelude.{◌≡◌, ◌++◌, ◌+◌, ◌≤◌, ◌<◌, length, take, drop};
 ghost use Rattle.report.specs.Text.{put, glyph, numeral, event_line, lines_from, refused_text};
 ghost use Rattle.parts.specs.Sector.{erased};

@@ -1,5 +1,6 @@
 // The sender: the events that put a gate's record into its sector, written into a lent buffer for a trace or for a driver of the two
 // wires. It knows no chip but the part; what its events do to one is proved in crates/promises.
+#![tactic(auto)]
 ghost use Rattle.std.specs.Prelude.{◌≡◌};
 ghost use Rattle.sender.specs.Sending.{event_count, send_refusal, sent_of, sent_buffer};
 
@@ -17,7 +18,7 @@ pub const EVENTS: usize = 713;
 pub const EVENTS_X24F129: usize = 636;
 
 // What sending answers: the number of the refusal or 0, and how many events were written.
-#[derive(Drop)]
+#[derive(Clone, Copy)]
 pub struct Sent {
     pub refusal: u8,
     pub count: u16,

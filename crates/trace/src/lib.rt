@@ -1,4 +1,5 @@
 // Running a trace: event bytes in, one answer byte for each, the chip and its array carried on.
+#![tactic(auto)]
 ghost use Rattle.std.specs.Prelude.{◌≡◌, ◌++◌, ◌≤◌, length, drop};
 ghost use Rattle.chip.specs.Run.{world};
 ghost use Rattle.trace.specs.Bytes.{event_of, sample_byte, all_events, answer_byte};
@@ -10,7 +11,7 @@ use parts::phase::{bit_of, weigh};
 use parts::wait::{EVERY_PLACE, FIRST_HALF, NO_PLACE};
 
 // What running a trace answers.
-#[derive(Drop)]
+#[derive(Clone, Copy)]
 pub struct Ran {
     pub refusal: u8,
     pub chip: Chip,

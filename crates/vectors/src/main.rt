@@ -1,5 +1,6 @@
 // The vectors: a script on standard input drives chips, traces, recovery, records, the map and the sender, and each order is written
 // again with what came of it.
+#![tactic(auto)]
 mod alter;
 mod count;
 mod desk;
