@@ -1,7 +1,7 @@
 -- What a lock and the protect pin keep over one event, of every part; from power-up a chip is busy exactly where something waits, and no sector waits that is locked
 -- whatever the pin. Assumes nothing.
 use Prim.Native.Nat.{ℕ, ◌*◌, ◌/◌}
-use mathlib.Core.Bool.{Bool, true, false, cond, not, ◌&&◌, true≢false, false≢true}
+use mathlib.Core.Bool.{Bool, true, false, not, true≢false, false≢true}
 use mathlib.Core.Path.{◌≡◌, refl, sym, ap, subst, ◌∙◌}
 use mathlib.Core.List.{List}
 use native.Mathlib.Decide.{ℕ_discrete}
@@ -9,12 +9,11 @@ use lib.ListN.{get_or}
 use Rattle.parts.specs.Locks.{locked}
 use Rattle.parts.specs.Register.{has_register, written}
 use Rattle.parts.specs.Sector.{sector_start}
-use Rattle.parts.specs.Wait.{waits, alone}
+use Rattle.parts.specs.Wait.{waits}
 use Rattle.parts.specs.declared.register.Register.{Register}
-use Rattle.parts.specs.declared.wait.Target.{Target}
-use Rattle.parts.specs.declared.wait.Target.TheVariants.{None, Sector, Locks}
+use Rattle.parts.specs.declared.wait.Target.TheVariants.{Sector}
 use Rattle.parts.specs.declared.wait.Wait.{Wait}
-use Rattle.parts.proofs.CondLaws.{cond_by, and_right}
+use Rattle.parts.proofs.CondLaws.{and_right}
 use Rattle.parts.proofs.LockLaws.{locked_from_start, open_low}
 use Rattle.parts.proofs.RegisterLaws.{written_by, written_kept, written_guarded}
 use Rattle.chip.specs.Chip.{at_power_up, cut_register}
@@ -23,8 +22,6 @@ use Rattle.chip.specs.Stop.{effect_moved, wait_or}
 use Rattle.chip.specs.View.{is_sample, pin_high, is_locks, open_to, byte_written, Touched, Sound, SoundChip, PinGuards}
 use Rattle.chip.specs.declared.chip.Chip.{Chip}
 use Rattle.chip.specs.declared.wire.Event.{Event}
-use Rattle.chip.specs.declared.wire.Event.TheVariants.{Sample, ProgramDone, PowerUp}
-use Rattle.chip.specs.declared.wire.Sample.{Sample as Levels}
 use Rattle.chip.proofs.CutLaws.{cut_register_law, touched}
 use Rattle.chip.proofs.StepLaws.{next_by}
 use Rattle.chip.proofs.ViewLaws.{next_told}

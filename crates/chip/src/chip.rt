@@ -127,6 +127,7 @@ impl Chip {
     }
 
     // A new chip: refusal 3, with the standard chip, for a part above 2 or a select above 7.
+    #[tactic(auto, unfolding(crate::specs::Chip::made))]
     pub fn new(part: u8, select: u8) -> Made
         ensures { result ≡ made part select }
     {
@@ -150,6 +151,7 @@ impl Chip {
     }
 
     // Whether each number that the chip carries is in its range.
+    #[tactic(auto, unfolding(crate::specs::Chip::chip_fits))]
     pub(crate) fn fits(self) -> bool
         ensures { result ≡ chip_fits self }
     {
@@ -169,6 +171,7 @@ impl Chip {
     }
 
     // Whether the chip pulls the line.
+    #[tactic(auto, unfolding(crate::specs::Chip::pulls))]
     pub(crate) fn pulls(self) -> bool
         ensures { result ≡ pulls self }
     {

@@ -54,6 +54,7 @@ impl Moved {
 
 impl Chip {
     // What an edge does, with the line and the pin of its sample.
+    #[tactic(auto, unfolding(crate::specs::Event::reacted))]
     fn react(self, array: &[u8], edge: Edge, line: bool, pin: bool) -> Moved
         ensures { result ≡ reacted edge self line pin array.now }
     {
@@ -68,6 +69,7 @@ impl Chip {
 
     // A sample on wires of its own: a busy chip keeps the levels alone; another is judged with the pull before the sample, and the line that is
     // kept has the pull after it.
+    #[tactic(auto, unfolding(crate::specs::Event::sampled, crate::specs::Event::judged))]
     fn sample(self, array: &[u8], sample: Sample) -> Moved
         ensures { result ≡ sampled self array.now sample }
     {
@@ -81,6 +83,7 @@ impl Chip {
     }
 
     // The end of a cycle, or its cut: what waits is written by the choices, and the register is as it is then. An idle chip has none.
+    #[tactic(auto, unfolding(crate::specs::Chip::cut_register, crate::specs::Chip::cut_array))]
     fn cut(self, array: &mut [u8], choices: u32) -> Register
         ensures { (result ≡ cut_register choices self) × (array.new ≡ cut_array choices self array.old) }
     {
@@ -96,6 +99,7 @@ impl Chip {
     }
 
     // A program-done: what waits is written whole and busy ends; nothing on an idle chip.
+    #[tactic(auto, unfolding(crate::specs::Event::program_done))]
     fn done(self, array: &mut [u8]) -> Moved
         ensures { (result ≡ quiet (program_done self)) × (array.new ≡ cut_array every_place self array.old) }
     {
@@ -128,6 +132,7 @@ impl Chip {
     }
 
     // One event: the next chip and its note. The line is the one that the next chip keeps.
+    #[tactic(auto, unfolding(crate::specs::Event::next, crate::specs::Event::next_array))]
     pub fn next(self, array: &mut [u8], event: Event) -> Moved
         ensures { (result ≡ next event self array.old) × (array.new ≡ next_array event self array.old) }
     {
@@ -139,6 +144,7 @@ impl Chip {
     }
 
     // Refusal 1 for an array that is not 16,384 bytes, 2 for a chip with a number outside its range, else 0.
+    #[tactic(auto, unfolding(crate::specs::Event::refusal))]
     pub fn refusal(self, array: &[u8]) -> u8
         ensures { result ≡ refusal self array.now }
     {
@@ -164,6 +170,7 @@ impl Chip {
     }
 
     // One event, refused with 1 or 2: the chip as given, line high, note 0, the array as it was.
+    #[tactic(auto, unfolding(crate::specs::Event::event_answer, crate::specs::Event::event_array))]
     pub fn event(self, array: &mut [u8], event: Event) -> Answer
         ensures { (result ≡ event_answer event self array.old) × (array.new ≡ event_array event self array.old) }
     {
@@ -175,6 +182,7 @@ impl Chip {
     }
 
     // A power-up as one event, with no call of `next`: the loop over a trace has the only one, and is fast by it.
+    #[tactic(auto, unfolding(crate::specs::Event::event_answer, crate::specs::Event::event_array, crate::specs::Event::next, crate::specs::Event::next_array))]
     pub fn power_up(self, array: &mut [u8], choices: u32) -> Answer
         ensures { (result ≡ event_answer (PowerUp choices) self array.old) × (array.new ≡ event_array (PowerUp choices) self array.old) }
     {

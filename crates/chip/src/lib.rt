@@ -1,5 +1,6 @@
 // The chip and one event: a model of the X24128, the X24F128 and the X24F129 at the level of line samples.
 #![tactic(auto)]
+
 pub mod chip;
 pub mod event;
 pub mod stop;

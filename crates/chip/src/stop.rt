@@ -13,6 +13,7 @@ use parts::sector::sector_start;
 use parts::wait::Wait;
 
 // Whether a stop here is rightly placed: exactly one bit of a data byte received.
+#[tactic(auto, unfolding(crate::specs::Stop::rightly))]
 fn rightly_placed(phase: Phase) -> bool
     ensures { result ≡ rightly phase }
 {
@@ -46,6 +47,7 @@ impl Chip {
     }
 
     // What an array load does at a rightly placed stop.
+    #[tactic(auto, unfolding(crate::specs::Stop::array_effect))]
     fn array_effect(self, pin: bool) -> Effect
         ensures { result ≡ array_effect self pin }
     {
@@ -62,6 +64,7 @@ impl Chip {
     }
 
     // What a rightly placed stop does.
+    #[tactic(auto, unfolding(crate::specs::Stop::right_effect))]
     fn right_effect(self, pin: bool) -> Effect
         ensures { result ≡ right_effect self pin }
     {
@@ -78,6 +81,7 @@ impl Chip {
     }
 
     // What a stop does: rightly placed, or misplaced.
+    #[tactic(auto, unfolding(crate::specs::Stop::stop_effect))]
     fn stop_effect(self, pin: bool) -> Effect
         ensures { result ≡ stop_effect self pin }
     {
@@ -113,6 +117,7 @@ impl Chip {
     }
 
     // A register byte was taken or not: the counter and the mark are cleared, and what waits by it turns the chip busy.
+    #[tactic(auto, unfolding(crate::specs::Stop::effect_moved))]
     fn change(self, written: Written) -> Moved
         ensures { result ≡ effect_moved (Change written) self }
     {
@@ -148,6 +153,7 @@ impl Chip {
     }
 
     // A stop: standby, the load empty, and what the stop does to the register and lets wait. It writes no byte of the array.
+    #[tactic(auto, unfolding(crate::specs::Stop::effect_moved))]
     pub(crate) fn stop(self, pin: bool) -> Moved
         ensures { result ≡ effect_moved (stop_effect self pin) self }
     {

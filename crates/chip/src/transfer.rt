@@ -29,6 +29,7 @@ impl Chip {
     }
 
     // The slave byte is taken.
+    #[tactic(auto, unfolding(crate::specs::Transfer::slave_taken))]
     fn take_slave(self, byte: u8) -> Chip
         ensures { result ≡ slave_taken self byte }
     {
@@ -43,6 +44,7 @@ impl Chip {
     }
 
     // The second address byte is taken.
+    #[tactic(auto, unfolding(crate::specs::Transfer::address_taken))]
     fn take_address(self, high: u8, low: u8) -> Chip
         ensures { result ≡ address_taken self (high * 256 + low) }
     {
@@ -64,6 +66,7 @@ impl Chip {
     }
 
     // A data byte for the register is taken.
+    #[tactic(auto, unfolding(crate::specs::Transfer::register_data))]
     fn take_register(self, byte: u8) -> Moved
         ensures { result ≡ register_data self byte }
     {
@@ -86,6 +89,7 @@ impl Chip {
     }
 
     // A data byte for the array is taken.
+    #[tactic(auto, unfolding(crate::specs::Transfer::array_data))]
     fn take_data(self, byte: u8) -> Moved
         ensures { result ≡ array_data self byte }
     {
@@ -125,6 +129,7 @@ impl Chip {
     }
 
     // A read byte begins with its bit 7.
+    #[tactic(auto, unfolding(crate::specs::Transfer::byte_begun))]
     fn begin_byte(self, array: &[u8]) -> Chip
         ensures { result ≡ byte_begun self array.now }
     {
@@ -133,6 +138,7 @@ impl Chip {
     }
 
     // A read byte has ended: the counter rises; after the register comes standby.
+    #[tactic(auto, unfolding(crate::specs::Transfer::byte_ended))]
     fn end_byte(self) -> Chip
         ensures { result ≡ byte_ended self }
     {
@@ -153,6 +159,7 @@ impl Chip {
     }
 
     // A clock fall: a whole byte is taken, an acknowledge ends, the next bit is sent.
+    #[tactic(auto, unfolding(crate::specs::Transfer::fall_in))]
     pub(crate) fn fall(self, array: &[u8]) -> Moved
         ensures { result ≡ fell self array.now }
     {

@@ -36,6 +36,7 @@ pub(crate) fn line_of(pulls: bool, sda: bool) -> bool
 }
 
 // The edge between the last levels and these.
+#[tactic(auto, unfolding(crate::specs::Wire::edge_of))]
 pub(crate) fn edge_of(scl_before: bool, scl: bool, line_before: bool, line: bool) -> Edge
     ensures { result ≡ edge_of scl_before scl line_before line }
 {
