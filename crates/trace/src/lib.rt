@@ -1,5 +1,6 @@
 // Running a trace: event bytes in, one answer byte for each, the chip and its array carried on.
 #![tactic(auto)]
+
 ghost use Rattle.std.specs.Prelude.{◌≡◌, ◌++◌, ◌≤◌, length, drop};
 ghost use Rattle.chip.specs.Run.{world};
 ghost use Rattle.trace.specs.Bytes.{event_of, sample_byte, all_events, answer_byte};
@@ -18,6 +19,7 @@ pub struct Ran {
 }
 
 // The event of an event byte.
+#[tactic(auto, unfolding(crate::specs::Bytes::event_of))]
 pub fn event_of(byte: u8) -> Event
     ensures { result ≡ event_of byte }
 {
@@ -76,6 +78,7 @@ fn all_events(trace: &[u8]) -> bool
 }
 
 // The refusal of a trace: 1, 2, 4, 5, 6 in this order, else 0.
+#[tactic(auto, unfolding(crate::specs::Trace::run_refusal))]
 pub fn run_refusal(chip: Chip, array: &[u8], trace: &[u8], room: usize) -> u8
     ensures { result ≡ run_refusal chip array.now trace.now room }
 {
@@ -114,6 +117,7 @@ fn run_events(chip: Chip, array: &mut [u8], trace: &[u8], answers: &mut [u8]) ->
 }
 
 // Runs a trace of up to 65,536 events. Refused with 1, 2, 4, 5 or 6, it runs nothing and writes nothing, in either buffer.
+#[tactic(auto, using(crate::proofs::RunLaws::run_room), unfolding(crate::specs::Trace::ran_of, crate::specs::Trace::run_array, crate::specs::Trace::run_answers, crate::specs::Trace::unless))]
 pub fn run(chip: Chip, array: &mut [u8], trace: &[u8], answers: &mut [u8]) -> Ran
     ensures value { result ≡ ran_of chip array.old trace.now answers.old }
     ensures array_after { array.new ≡ run_array chip array.old trace.now answers.old }
