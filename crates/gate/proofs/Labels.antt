@@ -1,7 +1,7 @@
 -- Laws of label bytes and of the label's padding.
 -- Assumes nothing.
 use mathlib.Core.Path.{◌≡◌, refl, ap, ◌∙◌}
-use mathlib.Core.Bool.{Bool, true, false, ◌&&◌, and_false, or-true}
+use mathlib.Core.Bool.{Bool, true, false, ◌&&◌, and-false, or-true}
 use mathlib.Core.List.{List, [], ◌∷◌}
 use Prim.Native.Nat.{ℕ, zero, suc, ◌≤◌, ◌<◌}
 use native.Mathlib.Nat.{not-suc-le-zero, le_of_suc-le-suc}
@@ -31,12 +31,12 @@ label_accent b low high = rw (le-leb 0xa1 b low, le-leb b 0xfe high, or-true (le
 -- what lies between the two ranges may not, 7Fh to A0h
 pub label_gap : (b : ℕ) → 0x7e < b → b < 0xa1 → label_byte b ≡ false
 unfolding label_byte
-label_gap b low high = rw (lt-leb b 0x7e low, lt-leb 0xa1 b high, and_false (leb 0x20 b))
+label_gap b low high = rw (lt-leb b 0x7e low, lt-leb 0xa1 b high, and-false (leb 0x20 b))
 
 -- nor what lies above them: FFh, and what is no byte
 pub label_above : (b : ℕ) → 0xfe < b → label_byte b ≡ false
 unfolding label_byte
-label_above b high = rw (lt-leb b 0x7e (omega arith), lt-leb b 0xfe high, and_false (leb 0x20 b), and_false (leb 0xa1 b))
+label_above b high = rw (lt-leb b 0x7e (omega arith), lt-leb b 0xfe high, and-false (leb 0x20 b), and-false (leb 0xa1 b))
 
 -- a label that is not empty is never all FFh
 pub no_erased_label : (n : ℕ) → is_label (replicate (suc n) 0xff) ≡ false
@@ -46,7 +46,7 @@ no_erased_label n = rw label_erased
 pub each_miss : (test : ℕ → Bool) (s : List ℕ) (i : ℕ) → i < length s → test (get_or s i 0) ≡ false → each_byte test s ≡ false
 each_miss test [] i h e = absurd (not-suc-le-zero h)
 each_miss test (b ∷ s) zero h e = rw e
-each_miss test (b ∷ s) (suc i) h e = rw (each_miss test s i (le_of_suc-le-suc h) e) (and_false (test b))
+each_miss test (b ∷ s) (suc i) h e = rw (each_miss test s i (le_of_suc-le-suc h) e) (and-false (test b))
 
 -- so many equal bytes are all that byte
 pub all_replicate : (n b : ℕ) → all b (replicate n b) ≡ true

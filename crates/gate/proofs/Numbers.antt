@@ -39,6 +39,10 @@ same_refl (negsuc a) = eq-eqb a a refl
 pub true_same : (a b : ℤ) → a ≡ b → same a b ≡ true
 true_same a b e = subst (λ (z : ℤ). same a z ≡ true) e (same_refl a)
 
+-- and unequal numbers are not the same
+pub same_false : (a b : ℤ) → (a ≡ b → ⊥) → same a b ≡ false
+same_false a b apart = by_test (same a b) (λ e. absurd (apart (same_true a b e))) (λ e. e)
+
 -- two numbers of 32 bits are equal where their bits are
 pub same_bits : (a b : ℤ) → SFits w32 a → SFits w32 b → eqb (of_z w32 a) (of_z w32 b) ≡ same a b
 same_bits a b fa fb =

@@ -6,6 +6,7 @@ use mathlib.Core.List.{List}
 use Prim.Native.Nat.{ℕ, zero, suc, ◌+◌, ◌-◌, ◌≤◌, ◌<◌}
 use native.Mathlib.Nat.{not-suc-le-zero}
 use native.Mathlib.Numerals.{add-one, sub-one}
+use borrow.Author.Tests.{ne_eqb}
 use lib.Dec.{eqb}
 use lib.ListN.{length, get_or, drop, drop_of_length-le}
 use lib.Seq.{drop-cons}
@@ -43,6 +44,10 @@ pub trim_step : (s : List ℕ) (n : ℕ) → 0 < n → trimmed_length s n ≡ co
 unfolding trimmed_length
 trim_step s zero h = absurd (not-suc-le-zero h)
 trim_step s (suc n) h = rw sub-one
+
+-- where the last of them is no space, all n are left
+pub trim_stop : (s : List ℕ) (n : ℕ) → 0 < n → (get_or s (n - 1) 0 ≡ 0x20 → ⊥) → trimmed_length s n ≡ n
+trim_stop s n h other = rw (trim_step s n h, ne_eqb (get_or s (n - 1) 0) 0x20 other)
 
 -- of no bytes, none is left
 pub trim_none : (s : List ℕ) (n : ℕ) → n ≤ 0 → trimmed_length s n ≡ 0

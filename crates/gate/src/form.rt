@@ -22,6 +22,7 @@ pub(crate) fn put_limits(buffer: &mut [u8], closed: i32, opened: i32)
 }
 
 // Puts the sum of bytes 0-29 behind them.
+#[tactic(auto, using(crate::proofs::Build::sealed))]
 pub(crate) fn seal(buffer: &mut [u8])
     requires { length buffer.old ≡ 32 }
     ensures { buffer.new ≡ sealed_of (take 30 buffer.old) }
@@ -42,6 +43,7 @@ fn put_front(buffer: &mut [u8], closed: i32, opened: i32, n: u8)
 }
 
 // Puts the record of good limits and a good label over the whole buffer.
+#[tactic(auto, using(crate::proofs::Build::built))]
 pub(crate) fn put_record(buffer: &mut [u8], closed: i32, opened: i32, label: &[u8])
     requires { (length buffer.old ≡ 32) × ((length label.now ≤ 24) × ((in_range closed ≡ true) × (in_range opened ≡ true))) }
     ensures { buffer.new ≡ record_of closed opened label.now }

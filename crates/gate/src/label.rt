@@ -3,6 +3,7 @@ ghost use Rattle.std.specs.Prelude.{◌≡◌, ◌≤◌, length};
 ghost use Rattle.gate.specs.Label.{label_byte, is_label, trimmed_length};
 
 // Whether a byte may stand in a label: 20h-7Eh and A1h-FEh, characters of ISO 8859-1.
+#[tactic(auto, unfolding(crate::specs::Label::label_byte))]
 pub(crate) fn label_byte(b: u8) -> bool
     ensures { result ≡ label_byte b }
 {
@@ -25,6 +26,7 @@ pub(crate) fn is_label(s: &[u8]) -> bool
 }
 
 // How many bytes of s are left without the spaces at its end.
+#[tactic(auto, using(crate::proofs::Walks::trim_step, crate::proofs::Walks::trim_stop, crate::proofs::Walks::trim_none))]
 pub(crate) fn trimmed(s: &[u8]) -> usize
     ensures { (result ≡ trimmed_length s.now (length s.now)) × (result ≤ length s.now) }
 {

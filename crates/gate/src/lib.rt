@@ -1,6 +1,7 @@
 // The gate record: thirty-two bytes that hold one gate's two travel limits and its label. Written, read, named and given new
 // limits here; what each operation answers is defined in specs/, in the file of the same name.
 #![tactic(auto)]
+
 pub mod answer;
 mod bytes;
 mod form;

@@ -3,6 +3,7 @@ ghost use Rattle.std.specs.Prelude.{◌≡◌, true};
 ghost use Rattle.gate.specs.Limit.{in_range, limits_refusal, bits16, signed16, travel_of};
 
 // Whether a limit lies in -30,000..30,000.
+#[tactic(auto, unfolding(crate::specs::Limit::in_range))]
 fn in_range(limit: i32) -> bool
     ensures { result ≡ in_range limit }
 {
@@ -10,6 +11,7 @@ fn in_range(limit: i32) -> bool
 }
 
 // The first refusal of two limits that applies, or 0.
+#[tactic(auto, using(crate::proofs::Numbers::true_same, crate::proofs::Numbers::same_false))]
 pub(crate) fn limits_refusal(closed: i32, opened: i32) -> u8
     ensures { result ≡ limits_refusal closed opened }
 {
@@ -24,6 +26,7 @@ pub(crate) fn limits_refusal(closed: i32, opened: i32) -> u8
 }
 
 // The sixteen bits of a limit in range.
+#[tactic(auto, unfolding(crate::specs::Limit::in_range, crate::specs::Limit::bits16))]
 pub(crate) fn bits_of(limit: i32) -> u16
     requires { in_range limit ≡ true }
     ensures { result ≡ bits16 limit }
@@ -36,6 +39,7 @@ pub(crate) fn bits_of(limit: i32) -> u16
 }
 
 // The limit that sixteen bits stand for.
+#[tactic(auto, unfolding(crate::specs::Limit::signed16))]
 pub(crate) fn limit_of(bits: u16) -> i16
     ensures { result ≡ signed16 bits }
 {

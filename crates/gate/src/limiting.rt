@@ -8,6 +8,7 @@ use crate::limit::limits_refusal;
 use crate::reading::read;
 
 // The first refusal that applies, or 0.
+#[tactic(auto, unfolding(crate::specs::Limiting::limits_of))]
 fn refusal(bytes: &[u8], closed: i32, opened: i32) -> u8
     ensures { result ≡ limits_of bytes.now closed opened }
 {
@@ -26,6 +27,7 @@ fn refusal(bytes: &[u8], closed: i32, opened: i32) -> u8
 
 // Sets the limits of a good record, and returns 0: bytes 0-3 and the sum change, and nothing beside them. Or returns the number of
 // the first refusal that applies, and leaves the record as it was; a free record is refused with 12 (our reading, docs/DECISIONS.md).
+#[tactic(auto, using(crate::proofs::Limited::limited_refused, crate::proofs::Limited::limits_taken))]
 pub fn set_limits(bytes: &mut [u8], closed: i32, opened: i32) -> u8
     ensures number { result ≡ limits_of bytes.old closed opened }
     ensures bytes { bytes.new ≡ limited_of bytes.old closed opened }

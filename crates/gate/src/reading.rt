@@ -18,6 +18,7 @@ fn sum_right(bytes: &[u8]) -> bool
 }
 
 // Whether length, label and padding are as the layout has them.
+#[tactic(auto, unfolding(crate::specs::Reading::label_fits))]
 fn label_fits(bytes: &[u8]) -> bool
     requires { length bytes.now ≡ 32 }
     ensures { result ≡ label_fits bytes.now }
@@ -34,6 +35,7 @@ fn label_fits(bytes: &[u8]) -> bool
 }
 
 // What a record whose label fits gives, or the refusal of its limits.
+#[tactic(auto, using(crate::proofs::Numbers::wide_back), unfolding(crate::specs::Reading::content_of))]
 fn content(bytes: &[u8]) -> Read
     requires { length bytes.now ≡ 32 }
     ensures { result ≡ content_of bytes.now }
@@ -54,6 +56,7 @@ fn content(bytes: &[u8]) -> Read
 }
 
 // Whether all bytes are FFh: 32 of them are a free record.
+#[tactic(auto, unfolding(crate::specs::Reading::is_free))]
 pub fn is_free(bytes: &[u8]) -> bool
     ensures { result ≡ is_free bytes.now }
 {
@@ -61,6 +64,7 @@ pub fn is_free(bytes: &[u8]) -> bool
 }
 
 // What 32 bytes hold as a record; any other number of bytes is refused.
+#[tactic(auto, unfolding(crate::specs::Reading::read_of))]
 pub fn read(bytes: &[u8]) -> Read
     ensures { result ≡ read_of bytes.now }
 {

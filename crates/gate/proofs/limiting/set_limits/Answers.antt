@@ -1,0 +1,18 @@
+use Rattle.std.proofs.Common.{◌≡◌, ◌∙◌, ℕ, List, take, sym, ap}
+use mir.Syntax.{w32}
+use Rattle.std.proofs.lemmas.Int.{to_z-of_z}
+use Rattle.gate.specs.Form.{sealed_of}
+use Rattle.gate.specs.Limiting.{limits_of, relimited}
+use Rattle.gate.proofs.Limited.{limited_good}
+use Rattle.gate.proofs.limiting.set_limits.Goals as goal
+
+pub returns-clause-bytes : goal.returns-clause-bytes
+unfolding relimited
+returns-clause-bytes c =
+    let a = c.args in
+    let closed = to_z-of_z w32 a.closed c.ranges.closed in
+    let opened = to_z-of_z w32 a.opened c.ranges.opened in
+    let number : c.refusal-number.result ≡ limits_of a.bytes.now a.closed a.opened = c.refusal-number.ensures ∙ rw (closed, opened) in
+    c.seal.ensures
+    ∙ ap (λ (d : List ℕ). sealed_of (take 30 d)) c.put_limits.ensures
+    ∙ rw (closed, opened) (sym (limited_good _ _ _ (sym number ∙ c.if-number-ne0.false)))
