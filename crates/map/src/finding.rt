@@ -18,6 +18,7 @@ pub enum Found {
 }
 
 // The lowest bit of a byte that is clear, or 8.
+#[tactic(auto, using(crate::proofs::FindLaws::first_step), unfolding(crate::specs::Finding::first_from))]
 fn lowest_clear(byte: u8) -> u8
     ensures { result ≡ first_from (λ bit. not (bit_of byte bit)) 0 8 }
 {
@@ -32,6 +33,7 @@ fn lowest_clear(byte: u8) -> u8
 }
 
 // The first sector whose bit is clear. Refused with 18 for a map that is not 64 bytes.
+#[tactic(auto, unfolding(crate::specs::Finding::first_free))]
 pub fn first_free(map: &[u8]) -> Found
     ensures { result ≡ first_free map.now }
 {

@@ -16,6 +16,7 @@ use parts::wait::Target;
 use trace::{Ran, event_of, run_refusal};
 
 // Whether an event is a sample.
+#[tactic(auto, unfolding(chip::specs::View::is_sample))]
 fn is_sample(event: Event) -> bool
     ensures { result ≡ is_sample event }
 {
@@ -27,6 +28,7 @@ fn is_sample(event: Event) -> bool
 }
 
 // What waits in the cycle that this event ends; nothing where it ends none.
+#[tactic(auto, unfolding(crate::specs::Keeping::ended))]
 fn ended_by(chip: Chip, event: Event) -> Target
     ensures { result ≡ ended event chip }
 {
@@ -39,6 +41,7 @@ fn ended_by(chip: Chip, event: Event) -> Target
 }
 
 // Enters the sector that waited, from the array as the end of its cycle left it.
+#[tactic(auto, using(crate::proofs::KeepLaws::sector_low), unfolding(crate::specs::Keeping::entered_for))]
 fn follow(map: &mut [u8], array: &[u8], target: Target)
     requires { (target_fits target ≡ true) × (length map.old ≡ 64) × (length array.now ≡ 16384) }
     ensures { map.new ≡ entered_for target array.now map.old }
@@ -104,6 +107,7 @@ pub fn power_up(chip: Chip, array: &mut [u8], map: &mut [u8], choices: u32) -> A
 }
 
 // Where the piece that begins at a place of a trace ends: before the next program-done or power-up.
+#[tactic(auto, using(crate::proofs::PieceLaws::piece_begins, crate::proofs::PieceLaws::piece_again))]
 fn piece_end(trace: &[u8], from: usize) -> usize
     requires { from < length trace.now }
     ensures { (from < result) × (result ≤ length trace.now) × (samples (mapped event_of (drop 1 (take (result - from) (drop from trace.now)))) ≡ true) }

@@ -15,6 +15,7 @@ const SECTORS: usize = 512;
 const WORTH: [u8; 8] = [1, 2, 4, 8, 16, 32, 64, 128];
 
 // The byte with one of its bits set or cleared.
+#[tactic(auto, using(crate::proofs::BitLaws::with_moved, crate::proofs::BitLaws::with_byte, crate::proofs::BitLaws::bit_least))]
 fn with_bit(byte: u8, bit: u8, on: bool) -> u8
     ensures { result ≡ with_bit byte (bit % 8) on }
 {
@@ -33,6 +34,7 @@ fn with_bit(byte: u8, bit: u8, on: bool) -> u8
 }
 
 // The refusal of a call with a map, given that of the call without one: 18 follows 1.
+#[tactic(auto, unfolding(crate::specs::Sectors::with_map))]
 pub(crate) fn with_map(number: u8, map: &[u8]) -> u8
     ensures { result ≡ with_map number map.now }
 {
@@ -53,6 +55,7 @@ fn bit_place(k: usize) -> u8
 }
 
 // Sets the bit of sector k from the array.
+#[tactic(auto, unfolding(crate::specs::Sectors::entered))]
 pub(crate) fn enter(map: &mut [u8], array: &[u8], k: usize)
     requires { (k < 512) × (length map.old ≡ 64) × (length array.now ≡ 16384) }
     ensures { map.new ≡ entered k array.now map.old }
@@ -75,6 +78,7 @@ fn array_number(array: &[u8]) -> u8
 }
 
 // Builds the map of an array, whatever the lent bytes were. Refused with 1 or 18 it writes nothing.
+#[tactic(auto, using(crate::proofs::MapLaws::build_fits, crate::proofs::MapLaws::entered_to_length), unfolding(crate::specs::Sectors::entered_to, crate::specs::Sectors::built_of, crate::specs::Sectors::build_refusal, trace::specs::Trace::unless))]
 pub fn build(array: &[u8], map: &mut [u8]) -> u8
     ensures { (result ≡ build_refusal array.now map.old) × (map.new ≡ built_of array.now map.old) }
 {
