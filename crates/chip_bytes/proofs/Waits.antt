@@ -1,7 +1,7 @@
 -- The chips that packing and unpacking bring back. No place waits without a sector: not in a new chip, not in one from bytes, and after no event; and
 -- new chips and those from bytes have their 32 places and bytes. Assumes nothing.
 use Prim.Native.Nat.{ℕ}
-use mathlib.Core.Bool.{false, true≢false}
+use mathlib.Core.Bool.{true≢false}
 use mathlib.Core.List.{List, map}
 use mathlib.Core.Path.{◌≡◌, refl, sym, ap, subst, ◌∙◌}
 use lib.ListN.{length, get_or, length-map}

@@ -16,6 +16,7 @@ pub fn flag_byte(on: bool) -> u8
 }
 
 // The four bytes of a phase: its number, bits, byte and high, where 0 stands for what it does not carry.
+#[tactic(auto, unfolding(crate::specs::State::phase_bytes))]
 fn phase_bytes(phase: Phase) -> [u8; 4]
     ensures { result ≡ phase_bytes phase }
 {
@@ -36,6 +37,7 @@ fn phase_bytes(phase: Phase) -> [u8; 4]
 }
 
 // The five bytes of what waits: its kind, the two of its sector's number, its PPEN and BL, where 0 stands for what it does not carry.
+#[tactic(auto, unfolding(crate::specs::State::target_bytes))]
 fn target_bytes(target: Target) -> [u8; 5]
     ensures { result ≡ target_bytes target }
 {
@@ -47,6 +49,7 @@ fn target_bytes(target: Target) -> [u8; 5]
 }
 
 // The bytes before the load's places.
+#[tactic(auto, unfolding(crate::specs::State::head_bytes))]
 fn head_bytes(chip: Chip) -> [u8; at::PLACES]
     ensures { result ≡ head_bytes chip }
 {

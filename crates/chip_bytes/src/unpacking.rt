@@ -11,6 +11,7 @@ use parts::register::Register;
 use parts::wait::{Target, Wait};
 
 // The phase of a number from 0 to 11, with those of the three bytes beside it that it carries.
+#[tactic(auto, unfolding(crate::specs::State::phase_of))]
 fn phase_of(number: u8, bits: u8, byte: u8, high: u8) -> Phase
     ensures { result ≡ phase_of number bits byte high }
 {
@@ -42,6 +43,7 @@ fn number_of(high: u8, low: u8) -> u16
 }
 
 // What waits by its kind from 0 to 2, with those of the four bytes beside it that it carries.
+#[tactic(auto, unfolding(crate::specs::State::target_of))]
 fn target_of(kind: u8, high: u8, low: u8, ppen: u8, bl: u8) -> Target
     ensures { result ≡ target_of kind high low ppen bl }
 {
@@ -85,6 +87,7 @@ fn flags_of(bytes: [u8; Chip::SECTOR]) -> [bool; Chip::SECTOR]
 }
 
 // What waits in the chip: a sector with its places and bytes, any other with none.
+#[tactic(auto, unfolding(crate::specs::State::wait_of, crate::specs::State::with_places))]
 fn wait_of(state: &[u8; at::SIZE]) -> Wait
     ensures { result ≡ wait_of state.now }
 {
@@ -111,6 +114,7 @@ fn wait_of(state: &[u8; at::SIZE]) -> Wait
 }
 
 // The chip that the bytes stand for.
+#[tactic(auto, unfolding(crate::specs::State::chip_of))]
 pub fn unpack(state: &[u8; at::SIZE]) -> Chip
     ensures { result ≡ chip_of state.now }
 {
@@ -150,6 +154,7 @@ pub fn unpack(state: &[u8; at::SIZE]) -> Chip
 }
 
 // Whether each byte is 0 or 1.
+#[tactic(auto, using(crate::proofs::Rows::flags_more, crate::proofs::Rows::flags_end))]
 fn all_flags(bytes: &[u8]) -> bool
     ensures { result ≡ all_flags bytes.now }
 {
@@ -163,6 +168,7 @@ fn all_flags(bytes: &[u8]) -> bool
 }
 
 // Whether the kind of what waits is one of the three and each flag that it carries is 0 or 1.
+#[tactic(auto, unfolding(crate::specs::State::wait_fits))]
 fn wait_fits(state: &[u8; at::SIZE]) -> bool
     ensures { result ≡ wait_fits (get_or state.now wait 0) (get_or state.now wait_ppen 0) (row 32 wait_places state.now) }
 {
@@ -179,6 +185,7 @@ fn wait_fits(state: &[u8; at::SIZE]) -> bool
 }
 
 // Whether the phase is one of the twelve, each flag is 0 or 1 and what waits fits.
+#[tactic(auto, unfolding(crate::specs::State::bytes_fit))]
 pub fn bytes_fit(state: &[u8; at::SIZE]) -> bool
     ensures { result ≡ bytes_fit state.now }
 {
