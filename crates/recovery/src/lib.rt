@@ -1,5 +1,6 @@
 // Freeing a hung bus: clock pulses with the data line let go until the line is high, then a start.
 #![tactic(auto)]
+
 ghost use Rattle.std.specs.Prelude.{◌≡◌, true, false};
 ghost use Rattle.chip.specs.Event.{refusal};
 ghost use Rattle.chip.specs.Wire.{sample};
@@ -84,6 +85,7 @@ fn pulsed_free(chip: Chip, array: &mut [u8], pin: bool) -> Pulsed
 }
 
 // Frees the bus: pulses until the line is high, then a start. Refused with 1 or 2: the chip as given, 0 pulses.
+#[tactic(auto, unfolding(crate::specs::Recovery::recovered, crate::specs::Recovery::recovery_answer, crate::specs::Recovery::recovery_array))]
 pub fn recover(chip: Chip, array: &mut [u8], pin: bool) -> Recovered
     ensures value { result ≡ recovery_answer pin chip array.old }
     ensures array_after { array.new ≡ recovery_array pin chip array.old }
