@@ -1,6 +1,7 @@
 // What the bench prints: a chip is run on event bytes from an array of FFh, and the text is written on a lent page. A line takes at
 // most 7 bytes, so that every text is at most 28,695 bytes long and has room on a page of 32,768.
 #![tactic(auto)]
+
 ghost use Rattle.std.specs.Prelude.{◌≡◌, ◌++◌, ◌+◌, ◌≤◌, ◌<◌, length, take, drop};
 ghost use Rattle.report.specs.Text.{put, glyph, numeral, event_line, lines_from, refused_text};
 ghost use Rattle.parts.specs.Sector.{erased};
@@ -16,6 +17,7 @@ fn glyph(n: usize) -> u8
 }
 
 // Writes a number below 10,000.
+#[tactic(auto, using(crate::proofs::TextLaws::numeral_1, crate::proofs::TextLaws::numeral_2, crate::proofs::TextLaws::numeral_3, crate::proofs::TextLaws::numeral_4), unfolding(crate::specs::Text::put))]
 fn put_number(page: &mut [u8; 32768], at: usize, n: usize) -> usize
     requires { (at + 4 ≤ 32768) × (n < 10000) }
     ensures value { result ≡ at + length (numeral n) }
@@ -64,6 +66,7 @@ fn put_text(page: &mut [u8], at: usize, text: &[u8]) -> usize
 }
 
 // Writes the line of an event, none where its note is 0.
+#[tactic(auto, using(crate::proofs::TextLaws::line_length, crate::proofs::TextLaws::line_put), unfolding(crate::specs::Text::put, crate::specs::Text::event_line))]
 fn put_event(page: &mut [u8; 32768], at: usize, position: usize, answer: u8) -> usize
     requires { (at + 10 ≤ 32768) × (position < 10000) }
     ensures value { result ≡ at + length (event_line position answer) }
@@ -109,6 +112,7 @@ fn put_answers(page: &mut [u8; 32768], answers: &[u8], n: usize) -> usize
 }
 
 // Writes a refusal.
+#[tactic(auto, using(crate::proofs::TextLaws::refused_put, crate::proofs::TextLaws::refused_length))]
 fn put_refused(page: &mut [u8; 32768], number: u8) -> usize
     ensures value { result ≡ length (refused_text number) }
     ensures page_after { page.new ≡ put page.old 0 (refused_text number) }

@@ -1,0 +1,14 @@
+-- A turn puts one line, and the last leaves the whole. Assumes nothing.
+use Rattle.report.proofs.TextLaws.{going_again, going_ends}
+use Rattle.report.proofs.put_lines.Goals as goal
+
+pub loop-i-preserved : goal.loop-i-preserved
+loop-i-preserved c =
+    simp (c.put_event-end.ensures.value, c.put_event-end.ensures.page_after)
+    (going_again _ _ _ _ _ _ c.loop-i.invariant c.loop-i-test.true)
+
+pub returns-clause-value : goal.returns-clause-value
+returns-clause-value c = (going_ends _ _ _ _ _ _ c.loop-i.invariant c.loop-i-test.false).0
+
+pub returns-clause-page_after : goal.returns-clause-page_after
+returns-clause-page_after c = (going_ends _ _ _ _ _ _ c.loop-i.invariant c.loop-i-test.false).1
