@@ -1,6 +1,7 @@
 // The sender: the events that put a gate's record into its sector, written into a lent buffer for a trace or for a driver of the two
 // wires. It knows no chip but the part; what its events do to one is proved in crates/promises.
 #![tactic(auto)]
+
 ghost use Rattle.std.specs.Prelude.{◌≡◌};
 ghost use Rattle.sender.specs.Sending.{event_count, send_refusal, sent_of, sent_buffer};
 
@@ -35,6 +36,7 @@ fn event_count(part: u8) -> usize
 }
 
 // The first refusal that applies, or 0: what reading refuses, a free record as 12, then 15, 16, 3, 17.
+#[tactic(auto, unfolding(crate::specs::Sending::send_refusal))]
 fn refusal(part: u8, select: u8, gate: u16, bytes: &[u8], room: usize) -> u8
     ensures { result ≡ send_refusal part select gate bytes.now room }
 {
@@ -63,6 +65,7 @@ fn refusal(part: u8, select: u8, gate: u16, bytes: &[u8], room: usize) -> u8
 // Writes the events that set PEL, where the part has one, and put a good record into the sector of its gate, protect pin low in each, and
 // answers their number. Refused with 7, 12 (a free record too), 13, 14, 15, 16, 3 or 17 it answers 0 and writes nothing. Bytes past the
 // events stay.
+#[tactic(auto, unfolding(crate::specs::Sending::sent_of, crate::specs::Sending::sent_buffer, trace::specs::Trace::unless))]
 pub fn send(part: u8, select: u8, gate: u16, bytes: &[u8], events: &mut [u8]) -> Sent
     ensures value { result ≡ sent_of part select gate bytes.now events.old }
     ensures events_after { events.new ≡ sent_buffer part select gate bytes.now events.old }
