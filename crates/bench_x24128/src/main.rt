@@ -1,8 +1,10 @@
 // The bench on an X24128 with select 0, which takes loads of any length.
 #![tactic(auto)]
-use chip::chip::Chip;
 
-fn main() {
+use chip::chip::Chip;
+use std::io;
+
+fn main(rt: HostRuntime) -> io::Result<()> {
     let made = Chip::new(Chip::X24128, 0);
-    bench_io::run(made.chip);
+    bench_io::run(&rt, made.chip)
 }

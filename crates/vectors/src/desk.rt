@@ -4,6 +4,7 @@ use crate::{count, say, wires};
 use chip::chip::Chip;
 use chip::event::Answer;
 use chip::wire::Event;
+use std::io;
 
 // A chip's array, and one byte beside it.
 pub(crate) type Array = [u8; 16385];
@@ -11,7 +12,7 @@ pub(crate) type Array = [u8; 16385];
 // A map of free sectors, and one byte beside it.
 pub(crate) type Map = [u8; 65];
 
-#[derive(Drop)]
+#[derive(Clone, Copy)]
 pub(crate) struct Desk {
     pub chip: Chip,
     pub pin: bool,
@@ -89,77 +90,123 @@ fn answer(d: Desk, array: &mut [u8], map: &mut [u8], event: Event) -> Answer {
 }
 
 // One event on what is lent: its refusal and its note are written where there is one.
-fn ran(desk: Desk, array: &mut [u8], map: &mut [u8], event: Event) -> Desk {
+fn ran(
+    rt: &impl Print,
+    desk: Desk,
+    array: &mut [u8],
+    map: &mut [u8],
+    event: Event,
+) -> io::Result<Desk> {
     let mut d = desk;
     let room = d.room;
     let span = along(d);
     if room <= array.len() {
         if span <= map.len() {
             let answer = answer(d, &mut array[..room], &mut map[..span], event);
-            say::unless_none(b'!', answer.refusal);
-            say::unless_none(b'\'', answer.note);
+            say::unless_none(rt, b'!', answer.refusal)?;
+            say::unless_none(rt, b'\'', answer.note)?;
             let chip = answer.chip;
             d.chip = chip;
             d.line = answer.line;
-            return d;
+            return Ok(d);
         }
     }
-    d
+    Ok(d)
 }
 
 // One event byte, heard.
-fn heard(d: Desk, array: &mut Array, map: &mut Map, event: u8) -> Desk {
-    let after = ran(d, array, map, trace::event_of(event));
-    hear(after, event)
+fn heard(
+    rt: &impl Print,
+    d: Desk,
+    array: &mut Array,
+    map: &mut Map,
+    event: u8,
+) -> io::Result<Desk> {
+    let after = ran(rt, d, array, map, trace::event_of(event))?;
+    Ok(hear(after, event))
 }
 
 // A power-up with any choices, and the line after it.
-pub(crate) fn cut(d: Desk, array: &mut Array, map: &mut Map, choices: u32) -> Desk {
-    let after = ran(d, array, map, Event::PowerUp { choices: choices });
-    say::number(b':', after.line as u64, 1);
-    after
+pub(crate) fn cut(
+    rt: &impl Print,
+    d: Desk,
+    array: &mut Array,
+    map: &mut Map,
+    choices: u32,
+) -> io::Result<Desk> {
+    let after = ran(rt, d, array, map, Event::PowerUp { choices: choices })?;
+    say::number(rt, b':', after.line as u64, 1)?;
+    Ok(after)
 }
 
 // The events of a tape from a position on.
-fn played(desk: Desk, array: &mut Array, map: &mut Map, tape: &[u8], from: usize) -> Desk {
+fn played(
+    rt: &impl Print,
+    desk: Desk,
+    array: &mut Array,
+    map: &mut Map,
+    tape: &[u8],
+    from: usize,
+) -> io::Result<Desk> {
     let mut d = desk;
     let mut i = from;
     while i < tape.len() {
-        d = heard(d, array, map, tape[i]);
+        d = heard(rt, d, array, map, tape[i])?;
         i = i + 1;
     }
-    d
+    Ok(d)
 }
 
 // An order's events, put on the tape up to a new end: they stay there, or the chip has them and the tape is as long as it was.
-pub(crate) fn moved(desk: Desk, array: &mut Array, map: &mut Map, tape: &[u8], end: usize) -> Desk {
+pub(crate) fn moved(
+    rt: &impl Print,
+    desk: Desk,
+    array: &mut Array,
+    map: &mut Map,
+    tape: &[u8],
+    end: usize,
+) -> io::Result<Desk> {
     let mut d = desk;
     if d.recording {
         d.length = end;
-        return d;
+        return Ok(d);
     }
     if end <= tape.len() {
-        return played(d, array, map, &tape[..end], d.length);
+        return played(rt, d, array, map, &tape[..end], d.length);
     }
-    d
+    Ok(d)
 }
 
 // Sends a byte in nine clocks, let go in the ninth.
-pub(crate) fn sent(d: Desk, array: &mut Array, map: &mut Map, tape: &mut Tape, byte: u8) -> Desk {
+pub(crate) fn sent(
+    rt: &impl Print,
+    d: Desk,
+    array: &mut Array,
+    map: &mut Map,
+    tape: &mut Tape,
+    byte: u8,
+) -> io::Result<Desk> {
     let end = wires::nine(tape, d.length, d.pin, byte, true);
-    moved(d, array, map, tape, end)
+    moved(rt, d, array, map, tape, end)
 }
 
 // Sends n bytes 01h, 02h, .. and writes how many of them were acknowledged.
-pub(crate) fn burst(desk: Desk, array: &mut Array, map: &mut Map, tape: &mut Tape, n: u32) -> Desk {
+pub(crate) fn burst(
+    rt: &impl Print,
+    desk: Desk,
+    array: &mut Array,
+    map: &mut Map,
+    tape: &mut Tape,
+    n: u32,
+) -> io::Result<Desk> {
     let mut d = desk;
     let mut taken: u64 = 0;
     let mut i: u32 = 0;
     while i < n {
-        d = sent(d, array, map, tape, (i % 255 + 1) as u8);
+        d = sent(rt, d, array, map, tape, (i % 255 + 1) as u8)?;
         taken = count::one_more(taken, !d.line);
         i = i + 1;
     }
-    say::number(b'+', taken, 2);
-    d
+    say::number(rt, b'+', taken, 2)?;
+    Ok(d)
 }

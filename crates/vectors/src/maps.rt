@@ -3,6 +3,7 @@ use crate::desk::{Desk, Map};
 use crate::{count, say, tape};
 use map::finding::Found;
 use parts::phase::bit_of;
+use std::io;
 
 // How many bits of the map are set.
 fn bits(map: &Map) -> u64 {
@@ -16,59 +17,71 @@ fn bits(map: &Map) -> u64 {
 }
 
 // Builds what is lent of the map from what is lent of the array, and says whether that could be done.
-fn built(d: Desk, array: &[u8], map: &mut [u8]) -> bool {
+fn built(rt: &impl Print, d: Desk, array: &[u8], map: &mut [u8]) -> io::Result<bool> {
     let room = d.room;
     let span = d.span;
     if room <= array.len() {
         if span <= map.len() {
-            say::unless_none(b'!', map::build(&array[..room], &mut map[..span]));
-            return true;
+            say::unless_none(rt, b'!', map::build(&array[..room], &mut map[..span]))?;
+            return Ok(true);
         }
     }
-    false
+    Ok(false)
 }
 
 // Builds the map; then the bits that are set, and the sum of the bytes.
-fn build(d: Desk, array: &[u8], map: &mut Map) {
-    if built(d, array, map) {
-        say::number(b'=', bits(map), 4);
-        say::number(b',', count::sum(map), 4);
+fn build(rt: &impl Print, d: Desk, array: &[u8], map: &mut Map) -> io::Result<()> {
+    if built(rt, d, array, map)? {
+        say::number(rt, b'=', bits(map), 4)?;
+        say::number(rt, b',', count::sum(map), 4)?;
     }
+    Ok(())
 }
 
 // What first free finds: a sector, `n` for none, or the refusal.
-fn tell(found: Found) {
+fn tell(rt: &impl Print, found: Found) -> io::Result<()> {
     match found {
-        Found::Sector { number } => say::number(b'=', number as u64, 4),
-        Found::None => say::text(b"=n"),
-        Found::Refused { number } => say::unless_none(b'!', number),
+        Found::Sector { number } => say::number(rt, b'=', number as u64, 4),
+        Found::None => say::text(rt, b"=n"),
+        Found::Refused { number } => say::unless_none(rt, b'!', number),
     }
 }
 
 // The first free sector, by what is lent of the map.
-fn first(d: Desk, map: &[u8]) {
+fn first(rt: &impl Print, d: Desk, map: &[u8]) -> io::Result<()> {
     let span = d.span;
     if span <= map.len() {
-        tell(map::first_free(&map[..span]));
+        tell(rt, map::first_free(&map[..span]))?;
     }
+    Ok(())
 }
 
 // The byte at one position of the map, nothing where there is none.
-fn show(map: &[u8], at: usize) {
+fn show(rt: &impl Print, map: &[u8], at: usize) -> io::Result<()> {
     if at < map.len() {
-        tape::peek(map, at);
+        tape::peek(rt, map, at)?;
     }
+    Ok(())
 }
 
 // Orders that build the map, look at it, or set its bytes.
-pub(crate) fn of_order(d: Desk, array: &[u8], map: &mut Map, order: u8) {
+pub(crate) fn of_order(
+    rt: &impl Print,
+    d: Desk,
+    array: &[u8],
+    map: &mut Map,
+    order: u8,
+) -> io::Result<()> {
     let value = d.value as usize;
     match order {
-        b'M' => build(d, array, map),
-        b'G' => first(d, map),
-        b'K' => tape::poke(map, value / 256, (value % 256) as u8),
-        b'I' => show(map, value),
-        _ => (),
+        b'M' => build(rt, d, array, map),
+        b'G' => first(rt, d, map),
+        b'K' => {
+            tape::poke(map, value / 256, (value % 256) as u8);
+            Ok(())
+        }
+        b'I' => show(rt, map, value),
+        _ => Ok(()),
     }
 }
 

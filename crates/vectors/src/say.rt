@@ -1,62 +1,65 @@
 // What the vectors write on standard output: the script's own bytes, names, and numbers in hexadecimal, in small letters.
-use libc::STDOUT_FILENO;
+use std::io;
 
 // Bytes as they are.
-pub(crate) fn text(s: &[u8]) {
-    io::write_all(STDOUT_FILENO, s);
+pub(crate) fn text(rt: &impl Print, s: &[u8]) -> io::Result<()> {
+    rt.write_all(s)
 }
 
 // One byte as it is.
-pub(crate) fn letter(byte: u8) {
-    text(&[byte]);
+pub(crate) fn letter(rt: &impl Print, byte: u8) -> io::Result<()> {
+    text(rt, &[byte])
 }
 
 // A letter where a flag is set.
-pub(crate) fn flag(on: bool, byte: u8) {
+pub(crate) fn flag(rt: &impl Print, on: bool, byte: u8) -> io::Result<()> {
     if on {
-        letter(byte);
+        letter(rt, byte)?;
     }
+    Ok(())
 }
 
 // A number of so many digits.
-pub(crate) fn hex(n: u64, digits: usize) {
-    io::print_hex(STDOUT_FILENO, n, digits);
+pub(crate) fn hex(rt: &impl Print, n: u64, digits: usize) -> io::Result<()> {
+    print!(rt; "{n:0digits$x}")
 }
 
 // A byte as two digits.
-pub(crate) fn byte(b: u8) {
-    hex(b as u64, 2);
+pub(crate) fn byte(rt: &impl Print, b: u8) -> io::Result<()> {
+    hex(rt, b as u64, 2)
 }
 
 // A letter and a number of so many digits.
-pub(crate) fn number(sign: u8, n: u64, digits: usize) {
-    letter(sign);
-    hex(n, digits);
+pub(crate) fn number(rt: &impl Print, sign: u8, n: u64, digits: usize) -> io::Result<()> {
+    letter(rt, sign)?;
+    hex(rt, n, digits)
 }
 
 // A letter and a number, nothing for 0.
-pub(crate) fn unless_none(sign: u8, n: u8) {
+pub(crate) fn unless_none(rt: &impl Print, sign: u8, n: u8) -> io::Result<()> {
     if n != 0 {
-        number(sign, n as u64, 1);
+        number(rt, sign, n as u64, 1)?;
     }
+    Ok(())
 }
 
 // A character of a name: itself where it is ASCII and prints, else, and for the backslash, a backslash and two digits.
-fn character(b: u8) {
+fn character(rt: &impl Print, b: u8) -> io::Result<()> {
     if (0x20 <= b) & (b <= 0x7e) & (b != b'\\') {
-        letter(b);
+        letter(rt, b)
     } else {
-        number(b'\\', b as u64, 2);
+        number(rt, b'\\', b as u64, 2)
     }
 }
 
 // A name.
-pub(crate) fn name(s: &[u8]) {
+pub(crate) fn name(rt: &impl Print, s: &[u8]) -> io::Result<()> {
     let mut i: usize = 0;
     while i < s.len() {
-        character(s[i]);
+        character(rt, s[i])?;
         i = i + 1;
     }
+    Ok(())
 }
 
 // A number without its sign.
@@ -65,16 +68,16 @@ fn size(z: i32) -> u64 {
 }
 
 // A letter and a number with its sign, of four digits or more.
-pub(crate) fn signed(sign: u8, z: i32) {
+pub(crate) fn signed(rt: &impl Print, sign: u8, z: i32) -> io::Result<()> {
     if z < 0 {
-        letter(sign);
-        number(b'-', size(z), 4);
+        letter(rt, sign)?;
+        number(rt, b'-', size(z), 4)
     } else {
-        number(sign, size(z), 4);
+        number(rt, sign, size(z), 4)
     }
 }
 
 // A letter and a limit.
-pub(crate) fn limit(sign: u8, z: i16) {
-    signed(sign, z as i32);
+pub(crate) fn limit(rt: &impl Print, sign: u8, z: i16) -> io::Result<()> {
+    signed(rt, sign, z as i32)
 }

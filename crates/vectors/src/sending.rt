@@ -1,10 +1,16 @@
 // The order that sends a record: the record is what is lent of the array, and its events go on what is lent of the tape.
 use crate::desk::Desk;
 use crate::{count, say};
+use std::io;
 
 // Sends the record with part, select and gate number from the number read. The refusal, the count of events and the sum of the whole tape
 // are written; what was sent is then on the tape.
-pub(crate) fn send_record(desk: Desk, array: &[u8], tape: &mut [u8]) -> Desk {
+pub(crate) fn send_record(
+    rt: &impl Print,
+    desk: Desk,
+    array: &[u8],
+    tape: &mut [u8],
+) -> io::Result<Desk> {
     let mut d = desk;
     let room = d.room;
     let space = d.space;
@@ -14,15 +20,15 @@ pub(crate) fn send_record(desk: Desk, array: &[u8], tape: &mut [u8]) -> Desk {
             let select = (d.value / 65536 % 256) as u8;
             let number = (d.value % 65536) as u16;
             let sent = sender::send(part, select, number, &array[..room], &mut tape[..space]);
-            say::unless_none(b'!', sent.refusal);
-            say::number(b'=', sent.count as u64, 4);
-            say::number(b',', count::sum(tape), 5);
+            say::unless_none(rt, b'!', sent.refusal)?;
+            say::number(rt, b'=', sent.count as u64, 4)?;
+            say::number(rt, b',', count::sum(tape), 5)?;
             if sent.refusal != 0 {
-                return d;
+                return Ok(d);
             }
             d.length = sent.count as usize;
-            return d;
+            return Ok(d);
         }
     }
-    d
+    Ok(d)
 }

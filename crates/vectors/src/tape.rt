@@ -3,6 +3,7 @@ use crate::desk::{Array, Desk, Map};
 use crate::wires::Tape;
 use crate::{count, desk, say};
 use chip::chip::Chip;
+use std::io;
 use trace::Ran;
 
 // What stands in the answer buffer before a run.
@@ -17,33 +18,33 @@ struct Tally {
 }
 
 // One answer: a note is written with its position.
-fn counted(tally: Tally, at: usize, answer: u8) -> Tally {
+fn counted(rt: &impl Print, tally: Tally, at: usize, answer: u8) -> io::Result<Tally> {
     let mut t = tally;
     if answer == BEFORE {
         t.kept = count::one_more(t.kept, true);
-        return t;
+        return Ok(t);
     }
     if answer / 2 != 0 {
-        say::number(b' ', at as u64, 5);
-        say::number(b'\'', answer as u64 / 2, 1);
+        say::number(rt, b' ', at as u64, 5)?;
+        say::number(rt, b'\'', answer as u64 / 2, 1)?;
     }
     t.low = count::one_more(t.low, answer % 2 == 0);
     t.sum = count::added(t.sum, answer);
-    t
+    Ok(t)
 }
 
 // What the tally counts.
-fn total(t: Tally) {
-    say::letter(b' ');
-    say::number(b'k', t.kept, 5);
-    say::letter(b' ');
-    say::number(b'l', t.low, 5);
-    say::letter(b' ');
-    say::number(b's', t.sum, 5);
+fn total(rt: &impl Print, t: Tally) -> io::Result<()> {
+    say::letter(rt, b' ')?;
+    say::number(rt, b'k', t.kept, 5)?;
+    say::letter(rt, b' ')?;
+    say::number(rt, b'l', t.low, 5)?;
+    say::letter(rt, b' ')?;
+    say::number(rt, b's', t.sum, 5)
 }
 
 // Writes the notes of the answers with their positions, then what the tally counts.
-fn told(answers: &[u8]) {
+fn told(rt: &impl Print, answers: &[u8]) -> io::Result<()> {
     let mut t = Tally {
         kept: 0,
         low: 0,
@@ -51,10 +52,10 @@ fn told(answers: &[u8]) {
     };
     let mut i: usize = 0;
     while i < answers.len() {
-        t = counted(t, i, answers[i]);
+        t = counted(rt, t, i, answers[i])?;
         i = i + 1;
     }
-    total(t);
+    total(rt, t)
 }
 
 // A trace, with the map or without.
@@ -66,7 +67,14 @@ fn ran(d: Desk, array: &mut [u8], map: &mut [u8], tape: &[u8], answers: &mut [u8
 }
 
 // A trace on what is lent of array, map, tape and answers.
-fn run_with(desk: Desk, array: &mut [u8], map: &mut [u8], tape: &[u8], answers: &mut [u8]) -> Desk {
+fn run_with(
+    rt: &impl Print,
+    desk: Desk,
+    array: &mut [u8],
+    map: &mut [u8],
+    tape: &[u8],
+    answers: &mut [u8],
+) -> io::Result<Desk> {
     let mut d = desk;
     let room = d.room;
     let span = desk::along(d);
@@ -83,37 +91,43 @@ fn run_with(desk: Desk, array: &mut [u8], map: &mut [u8], tape: &[u8], answers: 
                         &tape[..length],
                         &mut answers[..space],
                     );
-                    say::unless_none(b'!', ran.refusal);
-                    told(answers);
+                    say::unless_none(rt, b'!', ran.refusal)?;
+                    told(rt, answers)?;
                     let chip = ran.chip;
                     d.chip = chip;
-                    return d;
+                    return Ok(d);
                 }
             }
         }
     }
-    d
+    Ok(d)
 }
 
 // Runs what is on the tape.
-pub(crate) fn run_tape(d: Desk, array: &mut Array, map: &mut Map, tape: &Tape) -> Desk {
+pub(crate) fn run_tape(
+    rt: &impl Print,
+    d: Desk,
+    array: &mut Array,
+    map: &mut Map,
+    tape: &Tape,
+) -> io::Result<Desk> {
     let mut answers = [BEFORE; 65540];
-    run_with(d, array, map, tape, &mut answers)
+    run_with(rt, d, array, map, tape, &mut answers)
 }
 
 // Recovery, with the pin as it stands.
-pub(crate) fn recover(desk: Desk, array: &mut [u8]) -> Desk {
+pub(crate) fn recover(rt: &impl Print, desk: Desk, array: &mut [u8]) -> io::Result<Desk> {
     let mut d = desk;
     let room = d.room;
     if room <= array.len() {
         let freed = recovery::recover(d.chip, &mut array[..room], d.pin);
-        say::unless_none(b'!', freed.refusal);
-        say::number(b'=', freed.pulses as u64, 2);
+        say::unless_none(rt, b'!', freed.refusal)?;
+        say::number(rt, b'=', freed.pulses as u64, 2)?;
         let chip = freed.chip;
         d.chip = chip;
-        return d;
+        return Ok(d);
     }
-    d
+    Ok(d)
 }
 
 // Puts a byte at every position of a buffer.
@@ -147,25 +161,27 @@ pub(crate) fn poke_last(tape: &mut [u8], length: usize, byte: u8) {
 }
 
 // Writes the byte at one position, if there is one.
-fn byte(buffer: &[u8], at: usize) {
+fn byte(rt: &impl Print, buffer: &[u8], at: usize) -> io::Result<()> {
     if at < buffer.len() {
-        say::byte(buffer[at]);
+        say::byte(rt, buffer[at])?;
     }
+    Ok(())
 }
 
 // The byte at an address.
-pub(crate) fn peek(buffer: &[u8], at: usize) {
-    say::letter(b'=');
-    byte(buffer, at);
+pub(crate) fn peek(rt: &impl Print, buffer: &[u8], at: usize) -> io::Result<()> {
+    say::letter(rt, b'=')?;
+    byte(rt, buffer, at)
 }
 
 // The bytes of the sector of an address.
-pub(crate) fn sector(buffer: &[u8], address: usize) {
+pub(crate) fn sector(rt: &impl Print, buffer: &[u8], address: usize) -> io::Result<()> {
     let first = address / Chip::SECTOR * Chip::SECTOR;
-    say::letter(b'=');
+    say::letter(rt, b'=')?;
     let mut i: usize = 0;
     while i < Chip::SECTOR {
-        byte(buffer, first % 65536 + i);
+        byte(rt, buffer, first % 65536 + i)?;
         i = i + 1;
     }
+    Ok(())
 }
