@@ -8,6 +8,7 @@ use recovery::recover;
 use trace::run;
 
 // The refusal of bytes that no chip has: 1 where the array's length is wrong too, else 2.
+#[tactic(auto, unfolding(crate::specs::Calls::unfit))]
 fn unfit_number(array: &[u8]) -> u8
     ensures { result ≡ unfit array.now }
 {
@@ -29,6 +30,7 @@ pub extern "C" fn crep_new(state: &mut [u8; at::SIZE], part: u8, select: u8) -> 
 }
 
 // Runs a trace. Refused with 1, 2, 4, 5 or 6 it changes nothing and writes no answer.
+#[tactic(auto, using(crate::proofs::Refusals::unfit_taken), unfolding(crate::specs::Calls::run_number, trace::specs::Trace::unless))]
 #[unsafe(no_mangle)]
 pub extern "C" fn crep_run(
     state: &mut [u8; at::SIZE],
@@ -70,6 +72,7 @@ pub extern "C" fn crep_event(
 }
 
 // A power-up with any 32 choices. Refused with 1 or 2 it changes nothing. It answers that the line is high, with note 0, in every case.
+#[tactic(auto, using(crate::proofs::Refusals::unfit_taken), unfolding(crate::specs::Calls::power_up_number, trace::specs::Trace::unless))]
 #[unsafe(no_mangle)]
 pub extern "C" fn crep_power_up(
     state: &mut [u8; at::SIZE],
@@ -95,6 +98,7 @@ pub extern "C" fn crep_power_up(
 }
 
 // Frees the bus. Refused with 1 or 2 it changes nothing and reports 0 pulses.
+#[tactic(auto, using(crate::proofs::Refusals::unfit_taken), unfolding(crate::specs::Calls::recover_number, trace::specs::Trace::unless))]
 #[unsafe(no_mangle)]
 pub extern "C" fn crep_recover(
     state: &mut [u8; at::SIZE],

@@ -1,6 +1,8 @@
 // The kit for C: a chip is `at::SIZE` bytes of crate `chip_bytes` that the caller keeps, and each exported function answers for every byte and length
-// that it can be lent. include/crepulanter.h is the other side of this interface.
+// that it can be lent. include/crepulanter.h is the other side of this interface. As a library this crate gives C no symbol: crate
+// `crepulanter_c` calls each function under the same name in the archive.
 #![tactic(auto)]
+
 mod chips;
 mod maps;
 mod records;

@@ -16,6 +16,7 @@ const BYTES: usize = 64;
 const NONE: u16 = 512;
 
 // The refusal of bytes that no chip has, with a map beside them: 1 where the array's length is wrong, 18 where the map's is, else 2.
+#[tactic(auto, unfolding(crate::specs::Calls::unfit, map::specs::Sectors::with_map))]
 fn unfit_with_map(array: &[u8], map: &[u8]) -> u8
     ensures { result ≡ with_map (unfit array.now) map.now }
 {
@@ -69,6 +70,7 @@ pub extern "C" fn crep_map_first(map: &[u8], sector: &mut u16) -> u8
 }
 
 // Runs a trace and keeps the map. Refused with 1, 18, 2, 4, 5 or 6 it changes nothing and writes no answer.
+#[tactic(auto, using(crate::proofs::Refusals::unfit_map_taken), unfolding(crate::specs::Calls::run_number, trace::specs::Trace::unless))]
 #[unsafe(no_mangle)]
 pub extern "C" fn crep_map_run(
     state: &mut [u8; at::SIZE],
@@ -114,6 +116,7 @@ pub extern "C" fn crep_map_event(
 
 // A power-up with any 32 choices, with the map kept. Refused with 1, 18 or 2 it changes nothing. It answers that the line is high, with note 0,
 // in every case.
+#[tactic(auto, using(crate::proofs::Refusals::unfit_map_taken), unfolding(crate::specs::Calls::power_up_number, trace::specs::Trace::unless))]
 #[unsafe(no_mangle)]
 pub extern "C" fn crep_map_power_up(
     state: &mut [u8; at::SIZE],
