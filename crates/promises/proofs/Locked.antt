@@ -2,7 +2,7 @@
 use Prim.Native.Nat.{ℕ, ◌/◌}
 use mathlib.Core.Bool.{Bool, true, false, ◌||◌, false≢true}
 use mathlib.Core.List.{List, [], ◌∷◌, ◌++◌}
-use mathlib.Core.Path.{◌≡◌, refl, sym, ap, ◌∙◌}
+use mathlib.Core.Path.{◌≡◌, refl, ap, ◌∙◌}
 use borrow.Author.Tests.{eqb-true}
 use lib.Dec.{eqb}
 use lib.ListN.{get_or}
@@ -16,7 +16,7 @@ use Rattle.parts.specs.declared.wait.Wait.{Wait}
 use Rattle.parts.proofs.RowLaws.{stepped_on}
 use Rattle.chip.specs.Event.{next, next_array}
 use Rattle.chip.specs.Run.{World, step, note_of, ran}
-use Rattle.chip.specs.View.{samples, pin_high, writes, open_to, Cycled}
+use Rattle.chip.specs.View.{samples, pin_high, writes, Cycled}
 use Rattle.chip.specs.declared.chip.Chip.{Chip}
 use Rattle.chip.specs.declared.wire.Event.{Event}
 use Rattle.chip.proofs.LockLaws.{Open, began_open, locked_kept}

@@ -225,11 +225,11 @@ operations =
     (λ κs input r left. alone)
     -- trace::run
     ∷ one (whole 3 trace.run.Kinds.ps trace.run.Kinds.r trace.run.Reads.Post)
-    (λ κs (chip, (array, (bytes, (answers, end)))). (ran_of chip array.now (bytes .now) answers.now, (tt, (run_array chip array.now (bytes .now) answers.now, (tt, (run_answers chip array.now (bytes .now) answers.now, tt))))))
+    (λ κs (chip, (array, (bytes, (answers, end)))). (ran_of chip array.now bytes.now answers.now, (tt, (run_array chip array.now bytes.now answers.now, (tt, (run_answers chip array.now bytes.now answers.now, tt))))))
     (λ κs input r left p i. (p.0 i, (tt, (p.1.0 i, (tt, (p.1.1 i, tt))))))
     -- trace::run_refusal
     ∷ one (whole 2 trace.run_refusal.Kinds.ps trace.run_refusal.Kinds.r trace.run_refusal.Reads.Post)
-    (λ κs (chip, (array, (bytes, (room, end)))). (run_refusal chip array.now (bytes .now) room, (tt, (tt, (tt, (tt, tt))))))
+    (λ κs (chip, (array, (bytes, (room, end)))). (run_refusal chip array.now bytes.now room, (tt, (tt, (tt, (tt, tt))))))
     (λ κs input r left. alone)
     -- map::build
     ∷ one (whole 2 map.build.Kinds.ps map.build.Kinds.r map.build.Reads.Post)
@@ -249,7 +249,7 @@ operations =
     (λ κs input r left p i. (p.0 i, (tt, (p.1.0 i, (p.1.1 i, (tt, tt))))))
     -- map::run
     ∷ one (whole 4 map.run.Kinds.ps map.run.Kinds.r map.run.Reads.Post)
-    (λ κs (chip, (array, (m, (bytes, (answers, end))))). (trace_ran chip array.now m.now (bytes .now) answers.now, (tt, (trace_array chip array.now m.now (bytes .now) answers.now, (trace_map chip array.now m.now (bytes .now) answers.now, (tt, (trace_answers chip array.now m.now (bytes .now) answers.now, tt)))))))
+    (λ κs (chip, (array, (m, (bytes, (answers, end))))). (trace_ran chip array.now m.now bytes.now answers.now, (tt, (trace_array chip array.now m.now bytes.now answers.now, (trace_map chip array.now m.now bytes.now answers.now, (tt, (trace_answers chip array.now m.now bytes.now answers.now, tt)))))))
     (λ κs input r left p i. (p.0 i, (tt, (p.1.0 i, (p.1.1.0 i, (tt, (p.1.1.1 i, tt)))))))
     -- recovery::recover
     ∷ one (whole 1 recovery.recover.Kinds.ps recovery.recover.Kinds.r recovery.recover.Reads.Post)
@@ -261,15 +261,15 @@ operations =
     (λ κs input r left p i. (p.0 i, (p.1 i, left.1)))
     -- gate::set_limits
     ∷ one (whole 1 gate.set_limits.Kinds.ps gate.set_limits.Kinds.r gate.set_limits.Reads.Post)
-    (λ κs (bytes, (closed, (opened, end))). (limits_of (bytes .now) closed opened, (limited_of (bytes .now) closed opened, (tt, (tt, tt)))))
+    (λ κs (bytes, (closed, (opened, end))). (limits_of bytes.now closed opened, (limited_of bytes.now closed opened, (tt, (tt, tt)))))
     (λ κs input r left p i. (p.0 i, (p.1 i, left.1)))
     -- gate::is_free
     ∷ one (whole 1 gate.is_free.Kinds.ps gate.is_free.Kinds.r gate.is_free.Reads.Post)
-    (λ κs (bytes, end). (is_free (bytes .now), (tt, tt)))
+    (λ κs (bytes, end). (is_free bytes.now, (tt, tt)))
     (λ κs input r left. alone)
     -- gate::read
     ∷ one (whole 1 gate.read.Kinds.ps gate.read.Kinds.r gate.read.Reads.Post)
-    (λ κs (bytes, end). (read_of (bytes .now), (tt, tt)))
+    (λ κs (bytes, end). (read_of bytes.now, (tt, tt)))
     (λ κs input r left. alone)
     -- Read::given
     ∷ one (whole 0 gate.answer.Read.given.Kinds.ps gate.answer.Read.given.Kinds.r gate.answer.Read.given.Reads.Post)
@@ -277,19 +277,19 @@ operations =
     (λ κs input r left. alone)
     -- gate::shown_span
     ∷ one (whole 2 gate.shown_span.Kinds.ps gate.shown_span.Kinds.r gate.shown_span.Reads.Post)
-    (λ κs (bytes, (standard, end)). (span_of (bytes .now) standard.now, (tt, (tt, tt))))
+    (λ κs (bytes, (standard, end)). (span_of bytes.now standard.now, (tt, (tt, tt))))
     (λ κs input r left. alone)
     -- gate::shown_name
     ∷ one shown_name
-    (λ κs (bytes, (standard, end)). (name_of (bytes .now) standard.now, (tt, (tt, tt))))
+    (λ κs (bytes, (standard, end)). (name_of bytes.now standard.now, (tt, (tt, tt))))
     (λ κs input r left. alone)
     -- sender::send
     ∷ one (whole 2 sender.send.Kinds.ps sender.send.Kinds.r sender.send.Reads.Post)
-    (λ κs (part, (select, (number, (bytes, (events, end))))). (sent_of part select number (bytes .now) events.now, (tt, (tt, (tt, (tt, (sent_buffer part select number (bytes .now) events.now, tt)))))))
+    (λ κs (part, (select, (number, (bytes, (events, end))))). (sent_of part select number bytes.now events.now, (tt, (tt, (tt, (tt, (sent_buffer part select number bytes.now events.now, tt)))))))
     (λ κs input r left p i. (p.0 i, (tt, (tt, (tt, (tt, (p.1 i, tt)))))))
     -- report::write_report
     ∷ one (whole 2 report.write_report.Kinds.ps report.write_report.Kinds.r report.write_report.Reads.Post)
-    (λ κs (chip, (bytes, (page, end))). (length (report_of chip (bytes .now)), (tt, (tt, (report_of chip (bytes .now) ++ drop (length (report_of chip (bytes .now))) page.now, tt)))))
+    (λ κs (chip, (bytes, (page, end))). (length (report_of chip bytes.now), (tt, (tt, (report_of chip bytes.now ++ drop (length (report_of chip bytes.now)) page.now, tt)))))
     (λ κs input r left p i. (p.0 i, (tt, (tt, (p.1 i, tt)))))
     -- chip_bytes::flag_byte
     ∷ one (whole 0 chip_bytes.flag_byte.Kinds.ps chip_bytes.flag_byte.Kinds.r chip_bytes.flag_byte.Reads.Post)

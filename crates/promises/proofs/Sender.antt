@@ -12,7 +12,7 @@ use Rattle.parts.specs.Load.{no_load, whole}
 use Rattle.parts.specs.Register.{has_register, with_pel, with_rpel}
 use Rattle.parts.specs.Rows.{every}
 use Rattle.parts.specs.Sector.{sector_of, Bytes}
-use Rattle.parts.specs.Wait.{no_wait, every_place, chosen, stored, wait_for, end_array}
+use Rattle.parts.specs.Wait.{every_place, chosen, stored, wait_for, end_array}
 use Rattle.parts.specs.declared.phase.Phase.TheVariants.{Standby}
 use Rattle.parts.specs.declared.wait.Wait.{Wait}
 use Rattle.parts.proofs.CondLaws.{and_left, and_right}

@@ -7,7 +7,7 @@ use mathlib.Core.Path.{◌≡◌, refl, sym, ap, ap₂, subst, ◌∙◌}
 use lib.Dec.{eqb}
 use lib.ListN.{length}
 use Rattle.parts.specs.Load.{no_load}
-use Rattle.parts.specs.Phase.{phase_fits, risen}
+use Rattle.parts.specs.Phase.{phase_fits}
 use Rattle.parts.specs.Register.{has_register}
 use Rattle.parts.specs.Rows.{stepped}
 use Rattle.parts.specs.Sector.{sector_start}
@@ -17,10 +17,10 @@ use Rattle.parts.specs.declared.phase.Phase.TheVariants.{Standby, Slave, First, 
 use Rattle.chip.specs.Chip.{with_transfer, with_cycle, with_levels, chip_fits, pulls, cut_array, new_chip}
 use Rattle.chip.specs.Event.{next, next_array, sampled, judged, reacted, line_in, edge_in, settled, program_done, refusal, answered, refused, event_answer, event_array}
 use Rattle.chip.specs.Part.{selects, marked}
-use Rattle.chip.specs.Run.{World, world, step, note_of, ran, lines, notes}
+use Rattle.chip.specs.Run.{world, step, note_of, lines, notes}
 use Rattle.chip.specs.Stop.{stop_effect, right_effect, array_effect, effect_moved}
 use Rattle.chip.specs.Transfer.{quiet, at_phase, fall_in, slave_taken, address_taken, array_data, register_data, byte_begun, byte_ended}
-use Rattle.chip.specs.Wire.{line_of, edge_of}
+use Rattle.chip.specs.Wire.{line_of}
 use Rattle.chip.specs.declared.chip.Chip.{Chip}
 use Rattle.chip.specs.declared.chip.Effect.{Effect}
 use Rattle.chip.specs.declared.chip.Effect.TheVariants.{Nothing, Change, Store, Spoil}
@@ -29,7 +29,6 @@ use Rattle.chip.specs.declared.wire.Edge.{Edge}
 use Rattle.chip.specs.declared.wire.Edge.TheVariants.{Quiet, Start, Stop, Rise, Fall}
 use Rattle.chip.specs.declared.wire.Event.{Event}
 use Rattle.chip.specs.declared.wire.Event.TheVariants.{Sample, ProgramDone, PowerUp}
-use Rattle.chip.specs.declared.wire.Sample.{Sample as Levels}
 use Rattle.chip.proofs.PartLaws.{unmarked, always_enabled, locked_by_pin}
 use Rattle.chip.proofs.RangeLaws.{next_same}
 use Rattle.promises.specs.Unread.{bare, Alike, AlikeAnswers, AlikeRuns}
