@@ -2,7 +2,7 @@
 --
 -- | Name | Meaning |
 -- |---|---|
--- | `inRange` | a limit lies in -30,000..30,000 |
+-- | `in_range` | a limit lies in -30,000..30,000 |
 -- | `same` | two limits are equal |
 -- | `limits_refusal` | the first refusal of two limits that applies, or 0 |
 -- | `bits16` | the sixteen bits of a limit |

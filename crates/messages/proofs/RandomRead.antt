@@ -54,17 +54,17 @@ read_bits select address bytes = bits_heard bytes
 read_heard : (w : World) → SeesStart w.chip → w.chip.select ≤ 7 → (address n : ℕ) → address ≤ 0x3fff → (pins : ℕ → Bool)
     → lines (pinned pins (random_read w.chip.select address n)) w ≡ heard_read w.chip.select address (held w.array address n)
 unfolding random_read heard_read
-read_heard w s Select-in address n h pins =
+read_heard w s in_range address n h pins =
     subst (λ (v : World). lines (pinned pins (random_read w.chip.select address n)) v ≡ heard_read w.chip.select address (held w.array address n)) started
     (then_hears (bytes_taken n) (heard_bytes (held w.array address n))
     (then
     (then
     (then
-    (then (slave_sent w.chip w.array false w.chip.counter w.chip.mark no_load Select-in)
+    (then (slave_sent w.chip w.array false w.chip.counter w.chip.mark no_load in_range)
     (first_sent w.chip w.array w.chip.counter w.chip.mark no_load (address / 256) (omega arith)))
     (second_sent w.chip w.array w.chip.counter w.chip.mark no_load address h))
     (restarted w.chip w.array address false))
-    (slave_sent w.chip w.array true address false no_load Select-in))
+    (slave_sent w.chip w.array true address false no_load in_range))
     (bytes_read_law w.chip w.array no_load n address)
     pins)
   where
@@ -75,10 +75,10 @@ read_heard w s Select-in address n h pins =
 -- bytes from the address on
 pub random_read_law : (w : World) → SeesStart w.chip → w.chip.select ≤ 7 → (address n : ℕ) → address ≤ 0x3fff → (pins : ℕ → Bool)
     → Returns n (heard_of pins (random_read w.chip.select address n) w) (held w.array address n)
-random_read_law w s Select-in address n h pins =
+random_read_law w s in_range address n h pins =
     let bytes : List ℕ = held w.array address n in
     let heard : List Bool = heard_read w.chip.select address bytes in
-    rw (spelled_heard pins (random_read w.chip.select address n) w, read_heard w s Select-in address n h pins)
+    rw (spelled_heard pins (random_read w.chip.select address n) w, read_heard w s in_range address n h pins)
     (record {
       acknowledged = acks_heard w.chip.select address bytes;
       bits = subst (λ (m : ℕ). bits_read m heard ≡ map bits_of bytes) (length_held w.array address n) (read_bits w.chip.select address bytes);
@@ -88,9 +88,9 @@ random_read_law w s Select-in address n h pins =
 pub rested_read : (c : Chip) (xs : List ℕ) (counter : ℕ) (mark scl line : Bool) → c.select ≤ 7 → (address n : ℕ) → address ≤ 0x3fff → (pins : ℕ → Bool)
     → Returns n (drop 2 (heard_of pins (begin ++ random_read c.select address n) (resting c xs counter mark scl line))) (held xs address n)
 unfolding spelled answers_of pinned stepped
-rested_read c xs counter mark scl line Select-in address n h pins =
+rested_read c xs counter mark scl line in_range address n h pins =
     rw (sample_event true true (pins 0), sample_event true false (pins 1), ((begun c xs counter mark scl line).plays pins).ends)
-    (random_read_law (idle c xs counter mark no_load false (Slave 0 0)) (record { idle = refl; phase = refl; load = refl; scl = refl; line = refl }) Select-in address n h
+    (random_read_law (idle c xs counter mark no_load false (Slave 0 0)) (record { idle = refl; phase = refl; load = refl; scl = refl; line = refl }) in_range address n h
     (λ k. pins (suc (suc k))))
 
 -- the bits of bytes make the bytes
