@@ -12,7 +12,7 @@ BENCH_X24128 = target/bin/bench_x24128
 VERSION = $(shell sed -n 's/^\#define CREP_VERSION "\(.*\)"/\1/p' include/crepulanter.h)
 
 # The folders too: their times tell of files that went.
-SOURCES = crates.txt $(shell find crates -name must-fail -prune -o \( -type d -o -name '*.rt' -o -name '*.antt' \) -print)
+SOURCES = crates.txt $(shell find crates \( -name must-fail -o -name out \) -prune -o \( -type d -o -name '*.rt' -o -name '*.antt' \) -print)
 
 .PHONY: library bench module install other-machine
 
@@ -27,12 +27,12 @@ other-machine:
 	@echo "      then LIB=$(CURDIR)/target/panel/aarch64-linux/libcrepulanter.a as a word of make" >&2
 endif
 
-# What rt says is shown only where it fails.
+# What rt says is shown only where it fails. The code is for any x86-64.
 define prove
-@mkdir -p target
-@echo "rt $(1): proving and building, some minutes; only where a source has changed"
-@rt $(1) > target/rt.log 2>&1 || { cat target/rt.log; exit 1; }
-@touch $@
+@mkdir -p $(@D)
+@echo "rt $(1) in crates/$(2): proving and building, some minutes; only where a source has changed"
+@(cd crates/$(2) && rt $(1) --cpu=x86-64 < /dev/null) > target/rt.log 2>&1 || { cat target/rt.log; exit 1; }
+@cp crates/$(2)/out/$(3) $@
 endef
 
 # What is named on the command line is taken as it stands.
@@ -41,17 +41,17 @@ library: $(call built,LIB)
 bench: $(call built,BENCH) $(call built,BENCH_X24128)
 
 target/staticlib/libcrepulanter.a: $(SOURCES)
-	$(call prove,staticlib crepulanter)
+	$(call prove,lib,crepulanter_c,libcrepulanter_c.a)
 
 target/bin/%: $(SOURCES)
-	$(call prove,check $*)
+	$(call prove,run,$*,$*)
 
 module: target/targets/module.ll
 
 target/targets/module.ll: $(SOURCES) targets/module.sh
 	@sh targets/module.sh
 
-# One rt at a time in target/.
+# One rt at a time.
 .NOTPARALLEL:
 
 install: library
