@@ -136,7 +136,8 @@ pub fn write_report(chip: Chip, trace: &[u8], page: &mut [u8; 32768]) -> usize
     ensures value { result ≡ length (report_of chip trace.now) }
     ensures page_after { page.new ≡ report_of chip trace.now ++ drop (length (report_of chip trace.now)) page.old }
 {
-    if trace.len() <= 4096 {
+    let few = trace.len() <= 4096;
+    if few {
         let mut array = erased();
         let mut answers = [0u8; 4096];
         let ran = trace::run(chip, &mut array, trace, &mut answers);

@@ -64,6 +64,7 @@ pub fn answer_byte(line: bool, note: u8) -> u8
 }
 
 // Whether every byte is an event byte.
+#[tactic(auto, using(crate::proofs::ByteLaws::no_event, crate::proofs::ByteLaws::one_event))]
 fn all_events(trace: &[u8]) -> bool
     ensures { result ≡ all_events trace.now }
 {
