@@ -21,49 +21,52 @@ rm -rf "$work" target/panel target/web
 mkdir -p "$work"
 
 command -v rt > /dev/null || fail "rt not found: install the Rattle toolchain, no archive is built without a proof"
-home=$(dirname "$(dirname "$(rt doc)")")
-bin=on/$(uname -m)/toolchain/bin
-test -x "$home/$bin/clang" || fail "the toolchain of rt has no clang at $bin/clang"
+kit=$(dirname "$(rt doc)")
+real=$kit/toolchain/bin/clang
+test -x "$real" || fail "the toolchain of rt has no clang at toolchain/bin"
 
-# Fills a folder with links to all that stands in another, but for one entry.
+# Fills a folder with links to all that stands in another, but for the entries that are named.
 links() {
-    mkdir -p "$2"
-    for each in "$1"/*; do
-        test "${each##*/}" = "$3" || ln -s "$each" "$2/"
+    from=$1 to=$2
+    shift 2
+    mkdir -p "$to"
+    for each in "$from"/*; do
+        case " $* " in *" ${each##*/} "*) ;; *) ln -s "$each" "$to/" ;; esac
     done
 }
 
-folder=
-for entry in $(echo "$bin" | tr / ' ') clang; do
-    links "$home$folder" "$work/rattle$folder" "$entry"
-    folder=$folder/$entry
-done
-cat > "$work/rattle/$bin/clang" << END
+# rt takes the kit where it stands itself, so its two scripts are files here.
+links "$kit" "$work/rattle" bin toolchain
+links "$kit/bin" "$work/rattle/bin" rt rtlib.py
+cp "$kit/bin/rt" "$kit/bin/rtlib.py" "$work/rattle/bin/"
+links "$kit/toolchain" "$work/rattle/toolchain" bin
+links "$kit/toolchain/bin" "$work/rattle/toolchain/bin" clang
+cat > "$work/rattle/toolchain/bin/clang" << END
 #!/bin/sh
 for word; do
     case \$word in *.bc) cp "\$word" "$work/module.bc" ;; esac
 done
-exec "$home/$bin/clang" "\$@"
+exec "$real" "\$@"
 END
-chmod +x "$work/rattle/$bin/clang"
+chmod +x "$work/rattle/toolchain/bin/clang"
 
-echo "rt staticlib crepulanter: proving and building, some minutes"
-if ! RATTLE_HOME=$work/rattle rt staticlib crepulanter > "$work/rt.log" 2>&1; then
-    unproved=$(sed -n 's/^fn \(.*\): not proved$/\1/p' "$work/rt.log" | head -n 1)
-    fail "${unproved:-crepulanter} is not proved and no archive is built: target/targets/rt.log says why"
+echo "rt lib in crates/crepulanter_c: proving and building, some minutes"
+if ! (cd crates/crepulanter_c && "$work/rattle/bin/rt" lib --cpu=x86-64) > "$work/rt.log" 2>&1; then
+    unproved=$(sed -n 's/^fn \(.*\): no proof:.*$/\1/p' "$work/rt.log" | head -n 1)
+    fail "${unproved:-crepulanter_c} is not proved and no archive is built: target/targets/rt.log says why"
 fi
 test -s "$work/module.bc" || fail "rt handed no module to clang: target/targets/rt.log has what it said"
 
 # clang answers to the names of its own tools.
 for name in clang llvm-ar wasm-ld; do
-    ln -s "$home/$bin/clang" "$work/$name"
+    ln -s "$real" "$work/$name"
 done
 
-# What names x86-64 goes: triple, layout, processor. A call of C returns its byte in a whole register, which on x86-64 the
-# caller widens and on the others the callee has to.
+# What names x86-64 goes: triple, layout, processor, and the probes of a stack that a system lets grow. A call of C returns
+# its byte in a whole register, which on x86-64 the caller widens and on the others the callee has to.
 "$work/clang" --target=x86_64-unknown-linux-gnu -S -emit-llvm -x ir "$work/module.bc" -o "$work/x86-64.ll"
-sed -e '/^target /d' -e 's/ "target-cpu"="x86-64"//' -e 's/^define noundef i8 @crep_/define noundef zeroext i8 @crep_/' \
-    "$work/x86-64.ll" > "$work/module.new"
+sed -e '/^target /d' -e 's/ "target-cpu"="x86-64"//' -e 's/ "probe-stack"="[^"]*" "stack-probe-size"="[^"]*"//' \
+    -e 's/^define noundef i8 @crep_/define noundef zeroext i8 @crep_/' "$work/x86-64.ll" > "$work/module.new"
 sed -e '/^define .*@"\(chip\|trace\)::/! s/^\(define .*\) #0 {$/\1 optsize #0 {/' "$work/module.new" > "$work/small.ll"
 
 # Nothing of x86-64 is left, every C call has its word, and memory is named by bytes, a pointer in the room of 64 bits: so no
