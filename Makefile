@@ -11,8 +11,8 @@ BENCH = target/bin/bench
 BENCH_X24128 = target/bin/bench_x24128
 VERSION = $(shell sed -n 's/^\#define CREP_VERSION "\(.*\)"/\1/p' include/crepulanter.h)
 
-# The folders too: their times tell of files that went.
-SOURCES = crates.txt $(shell find crates \( -name must-fail -o -name out \) -prune -o \( -type d -o -name '*.rt' -o -name '*.antt' \) -print)
+# The folders too: their times tell of files that went. What rt keeps, out/, is none of them, nor the folder that it stands in.
+SOURCES = crates.txt $(shell find crates -mindepth 2 \( -name must-fail -o -name out \) -prune -o \( -type d -o -name '*.rt' -o -name '*.antt' \) -print)
 
 .PHONY: library bench module install other-machine
 
