@@ -1,5 +1,5 @@
 -- Heading, lines and count are put one behind the other, and 7 bytes a line leave room for each. Assumes nothing.
-use Rattle.std.proofs.Common.{take, arith}
+use Rattle.std.proofs.Common.{take, arith, rules}
 use Rattle.std.proofs.Math.Seq.{length-take-le}
 use Rattle.report.proofs.TextLaws.{lines_short}
 use Rattle.report.proofs.ReportLaws.{answers_by}
@@ -13,18 +13,13 @@ pub put_text-requires : goal.put_text-requires
 put_text-requires c =
     omega (arith, lines_short 0 (take c.args.n c.args.answers.now), length-take-le c.args.n c.args.answers.now c.requires.0)
 
-pub returns-clause-value : goal.returns-clause-value
-returns-clause-value c =
-    let told = take c.args.n c.args.answers.now in
+pub returns : goal.returns
+returns c =
     let all = length-take-le c.args.n c.args.answers.now c.requires.0 in
-    (answers_by told c.args.n all c.args.page.now c.put_text-first.ensures.value c.put_text-first.ensures.page_after c.put_lines-last.ensures.value
-    c.put_lines-last.ensures.page_after c.put_number-word.ensures.value c.put_number-word.ensures.page_after c.put_text.ensures.value
-    c.put_text.ensures.page_after).0
-
-pub returns-clause-page_after : goal.returns-clause-page_after
-returns-clause-page_after c =
-    let told = take c.args.n c.args.answers.now in
-    let all = length-take-le c.args.n c.args.answers.now c.requires.0 in
-    (answers_by told c.args.n all c.args.page.now c.put_text-first.ensures.value c.put_text-first.ensures.page_after c.put_lines-last.ensures.value
-    c.put_lines-last.ensures.page_after c.put_number-word.ensures.value c.put_number-word.ensures.page_after c.put_text.ensures.value
-    c.put_text.ensures.page_after).1
+    let head = c.put_text-first.ensures in
+    let lines = c.put_lines-last.ensures in
+    let count = c.put_number-word.ensures in
+    let word = c.put_text.ensures in
+    let whole = answers_by (take c.args.n c.args.answers.now) c.args.n all c.args.page.now head.value head.page_after lines.value lines.page_after
+    count.value count.page_after word.value word.page_after in
+    record { value = whole.0; page_after = whole.1; page_len = search rules }

@@ -7,8 +7,7 @@ loop-i-preserved c =
     simp (c.put_event-end.ensures.value, c.put_event-end.ensures.page_after)
     (going_again _ _ _ _ _ _ c.loop-i.invariant c.loop-i-test.true)
 
-pub returns-clause-value : goal.returns-clause-value
-returns-clause-value c = (going_ends _ _ _ _ _ _ c.loop-i.invariant c.loop-i-test.false).0
-
-pub returns-clause-page_after : goal.returns-clause-page_after
-returns-clause-page_after c = (going_ends _ _ _ _ _ _ c.loop-i.invariant c.loop-i-test.false).1
+pub returns : goal.returns
+returns c =
+    let whole = going_ends _ _ _ _ _ _ c.loop-i.invariant c.loop-i-test.false in
+    record { value = whole.0; page_after = whole.1 }

@@ -11,11 +11,11 @@ loop-i-preserved c = (
   c.next-moved.auto.array ∙ c.loop-i.invariant.1,
 )
 
-pub returns-clause-value : goal.returns-clause-value
-returns-clause-value c = ap (λ (w : World). w.chip) (going_ends _ _ _ _ _ _ _ c.loop-i.invariant.0 c.loop-i-test.false).0
-
-pub returns-clause-array_after : goal.returns-clause-array_after
-returns-clause-array_after c = ap (λ (w : World). w.array) (going_ends _ _ _ _ _ _ _ c.loop-i.invariant.0 c.loop-i-test.false).0
-
-pub returns-clause-answers_after : goal.returns-clause-answers_after
-returns-clause-answers_after c = (going_ends _ _ _ _ _ _ _ c.loop-i.invariant.0 c.loop-i-test.false).1
+pub returns : goal.returns
+returns c =
+    let end = going_ends _ _ _ _ _ _ _ c.loop-i.invariant.0 c.loop-i-test.false in
+    record {
+      value = ap (λ (w : World). w.chip) end.0;
+      array_after = ap (λ (w : World). w.array) end.0;
+      answers_after = end.1;
+    }

@@ -11,23 +11,13 @@ follow-requires c =
     let said = c.run-ran.ensures in
     (rw c.ended_by-target.ensures (ended_taken _ _ _ c.requires.taken.chip), c.requires.taken.map, array_whole _ _ _ _ _ c.requires _ _ _ said.value said.array_after said.answers_after)
 
-pub returns-clause-value : goal.returns-clause-value
-returns-clause-value c =
-    let said = c.run-ran.ensures in
-    chip_left _ _ _ _ _ c.requires _ _ _ said.value said.array_after said.answers_after
-
-pub returns-clause-array_after : goal.returns-clause-array_after
-returns-clause-array_after c =
-    let said = c.run-ran.ensures in
-    array_left _ _ _ _ _ c.requires _ _ _ said.value said.array_after said.answers_after
-
-pub returns-clause-map_after : goal.returns-clause-map_after
-returns-clause-map_after c =
+pub returns : goal.returns
+returns c =
     let said = c.run-ran.ensures in
     let target = c.ended_by-target.ensures ∙ ap (λ (e : Event). ended e c.args.chip) c.event_of.ensures in
-    c.follow.ensures ∙ map_left _ _ _ _ _ c.requires _ _ _ said.value said.array_after said.answers_after _ target
-
-pub returns-clause-answers_after : goal.returns-clause-answers_after
-returns-clause-answers_after c =
-    let said = c.run-ran.ensures in
-    told_left _ _ _ _ _ c.requires _ _ _ said.value said.array_after said.answers_after
+    record {
+      value = chip_left _ _ _ _ _ c.requires _ _ _ said.value said.array_after said.answers_after;
+      array_after = array_left _ _ _ _ _ c.requires _ _ _ said.value said.array_after said.answers_after;
+      map_after = c.follow.ensures ∙ map_left _ _ _ _ _ c.requires _ _ _ said.value said.array_after said.answers_after _ target;
+      answers_after = told_left _ _ _ _ _ c.requires _ _ _ said.value said.array_after said.answers_after;
+    }
