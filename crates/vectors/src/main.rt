@@ -32,6 +32,6 @@ fn play(rt: &impl Print, script: &[u8]) -> io::Result<()> {
 
 fn main(rt: HostRuntime) -> io::Result<()> {
     let mut script = [0u8; 65536];
-    let n = bench_io::read_full(&rt, &mut script)?;
+    let n = bench_io::read_full(&mut rt.reader(), &mut script)?;
     play(&rt, &script[..n])
 }
