@@ -1,27 +1,50 @@
 -- What the answer of reading says of the bytes: a good record passes every check, and bytes that pass every check are a good record.
 -- Assumes nothing.
-use mathlib.Core.Path.{◌≡◌, refl}
-use mathlib.Core.Bool.{Bool, true, false, cond, not}
-use mathlib.Core.List.{List, [], ◌∷◌}
-use mathlib.Core.Logic.{⊎_elim}
+use mathlib.Core.Path.{◌≡◌, refl, sym, ap}
+use mathlib.Core.Bool.{Bool, true, false, cond, not, true≢false}
+use mathlib.Core.List.{List}
 use Prim.Native.Nat.{ℕ, ◌≤◌}
 use native.Mathlib.Omega.{arith}
 use borrow.Author.Tests.{eqb-true, eq-eqb, leb-true, not-false}
 use lib.Dec.{eqb, leb}
 use lib.IntN.{ℤ}
 use lib.ListN.{length, take}
-use types.Run.{OneOf}
-use denote.Enum.Declared.{tag_of}
+use Rattle.std.specs.Prelude.{Option, Some, None, Result, Ok, Err}
+use Rattle.refusals.specs.Refusals.{number_of}
+use Rattle.refusals.specs.declared.Refusal.{Refusal}
+use Rattle.refusals.proofs.Numbers.{same_refusal}
 use Rattle.gate.specs.Bytes.{all, total}
 use Rattle.gate.specs.Label.{is_label}
 use Rattle.gate.specs.Limit.{limits_refusal}
 use Rattle.gate.specs.Reading.{closed_at, opened_at, state_at, length_at, label_at, padding_at, sum_at, is_free, label_fits, good_of, content_of, read_of}
-use Rattle.gate.specs.Answer.{needs_gate}
+use Rattle.gate.specs.Answer.{Read, Good, Free, Refused, read_as, needs_gate, is_good}
 use Rattle.gate.specs.Naming.{own_length}
-use Rattle.gate.specs.declared.answer.Read.{Read}
-use Rattle.gate.specs.declared.answer.Read.TheVariants.{Good, Free, Refused}
-use Rattle.gate.specs.contracts.answer.Read.{the_type}
+use Rattle.gate.specs.declared.answer.Gate.{Gate}
 use Rattle.gate.proofs.Truth.{and_left, and_right, cond_by}
+
+module _ {c o t : ℤ} {n : ℕ} where
+  refused_good : (k : ℕ) → Refused k ≡ Good c o t n → ⊥
+  refused_good k e = cc e
+
+  free_good : Free ≡ Good c o t n → ⊥
+  free_good e = cc e
+
+-- two answers of the code that stand for the same are one
+pub same_read : (a b : Result (Option Gate) Refusal) → read_as a ≡ read_as b → a ≡ b
+same_read (Ok (Some a)) (Ok (Some b)) e =
+    let closed : a.closed ≡ b.closed = cc e in
+    let opened : a.opened ≡ b.opened = cc e in
+    let travel : a.travel ≡ b.travel = cc e in
+    let size : a.length ≡ b.length = cc e in
+    λ i. Ok (Some (record { closed = closed i; opened = opened i; travel = travel i; length = size i }))
+same_read (Ok (Some a)) (Ok None) e = absurd (free_good (sym e))
+same_read (Ok (Some a)) (Err r) e = absurd (refused_good (number_of r) (sym e))
+same_read (Ok None) (Ok (Some b)) e = absurd (free_good e)
+same_read (Ok None) (Ok None) e = refl
+same_read (Ok None) (Err r) e = cc e
+same_read (Err r) (Ok (Some b)) e = absurd (refused_good (number_of r) e)
+same_read (Err r) (Ok None) e = cc e
+same_read (Err a) (Err b) e = let number : number_of a ≡ number_of b = cc e in ap Err (same_refusal a b number)
 
 -- the checks of reading, all passed
 pub record Passed (bytes : List ℕ) : Type 0 where
@@ -33,12 +56,6 @@ pub record Passed (bytes : List ℕ) : Type 0 where
   pub limited : limits_refusal (closed_at bytes) (opened_at bytes) ≡ 0
 
 module _ {c o t : ℤ} {n : ℕ} where
-  refused_good : (k : ℕ) → Refused k ≡ Good c o t n → ⊥
-  refused_good k e = let z : ◌≡◌ {A = ℕ} 0 1 = cc in omega arith
-
-  free_good : Free ≡ Good c o t n → ⊥
-  free_good e = let z : ◌≡◌ {A = ℕ} 0 1 = cc in omega arith
-
   past : (b : Bool) (x y : Read) → (x ≡ Good c o t n → ⊥) → cond b x y ≡ Good c o t n → (b ≡ false) × (y ≡ Good c o t n)
   past true x y never e = absurd (never e)
   past false x y never e = (refl, e)
@@ -120,7 +137,7 @@ good_length {c} {o} {t} {n} bytes e =
     (p.0.sized, rw same at (fits_length bytes p.0.labelled))
 
 -- an answer that is not good shows nothing of the record
-pub not_good : (bytes : List ℕ) (r : Read) → OneOf (1 ∷ 2 ∷ []) (tag_of the_type r) → own_length bytes r ≡ 0
-not_good bytes (Good c o t n) k = absurd (⊎_elim (λ e. omega arith) (λ e. omega arith) k)
+pub not_good : (bytes : List ℕ) (r : Read) → is_good r ≡ false → own_length bytes r ≡ 0
+not_good bytes (Good c o t n) k = absurd (true≢false k)
 not_good bytes Free k = refl
 not_good bytes (Refused j) k = refl

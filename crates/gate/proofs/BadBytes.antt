@@ -14,7 +14,7 @@ use Rattle.gate.specs.Bytes.{total}
 use Rattle.gate.specs.Label.{label_byte, is_label}
 use Rattle.gate.specs.Writing.{write_of, written_of}
 use Rattle.gate.specs.Reading.{state_at, length_at, label_at, sum_at, is_free, label_fits, read_of}
-use Rattle.gate.specs.declared.answer.Read.TheVariants.{Refused}
+use Rattle.gate.specs.Answer.{Refused}
 use Rattle.gate.proofs.Truth.{by_test}
 use Rattle.gate.proofs.Labels.{each_miss}
 use Rattle.gate.proofs.Writes.{written_refused}

@@ -10,9 +10,7 @@ use lib.ListN.{length}
 use Rattle.gate.specs.Limit.{travel_of}
 use Rattle.gate.specs.Writing.{write_of, written_of}
 use Rattle.gate.specs.Reading.{is_free, read_of}
-use Rattle.gate.specs.Answer.{zeros_of, given_of, is_good}
-use Rattle.gate.specs.declared.answer.Read.{Read}
-use Rattle.gate.specs.declared.answer.Read.TheVariants.{Good, Free, Refused}
+use Rattle.gate.specs.Answer.{Read, Good, Free, Refused, zeros_of, given_of, is_good}
 use Rattle.gate.proofs.RoundTrip.{written_read}
 use Rattle.gate.proofs.Outcomes.{travel_not_zero}
 

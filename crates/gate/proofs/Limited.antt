@@ -16,7 +16,7 @@ use Rattle.gate.specs.Form.{sealed_of, record_of}
 use Rattle.gate.specs.Reading.{length_at, label_at, good_of, read_of}
 use Rattle.gate.specs.Naming.{name_of}
 use Rattle.gate.specs.Limiting.{limits_of, relimited, limited_of}
-use Rattle.gate.specs.declared.answer.Read.TheVariants.{Good}
+use Rattle.gate.specs.Answer.{Good}
 use Rattle.gate.proofs.Truth.{by_test}
 use Rattle.gate.proofs.Answers.{Passed, good_passed, needs_good}
 use Rattle.gate.proofs.Writes.{Writable, limits_good}

@@ -11,7 +11,7 @@ use lib.Seq.{take-length}
 use Rattle.gate.specs.Label.{trimmed_length}
 use Rattle.gate.specs.Reading.{read_of}
 use Rattle.gate.specs.Naming.{own_length, span_of, name_of}
-use Rattle.gate.specs.declared.answer.Read.TheVariants.{Good}
+use Rattle.gate.specs.Answer.{Good}
 
 module _ (bytes standard : List ℕ) where
   -- where no byte of the record is shown, the name is the standard label, whole

@@ -13,9 +13,7 @@ use lib.Signed.{le_z}
 use Rattle.gate.specs.Bytes.{total}
 use Rattle.gate.specs.Limit.{in_range, same, limits_refusal, travel_of}
 use Rattle.gate.specs.Reading.{closed_at, opened_at, state_at, sum_at, is_free, label_fits, content_of, read_of}
-use Rattle.gate.specs.Answer.{outcomes}
-use Rattle.gate.specs.declared.answer.Read.{Read}
-use Rattle.gate.specs.declared.answer.Read.TheVariants.{Good}
+use Rattle.gate.specs.Answer.{Read, Good, outcomes}
 use Rattle.gate.proofs.Truth.{cond_by}
 use Rattle.gate.proofs.Numbers.{range_abs, difference_abs, abs_between, zero_same}
 use Rattle.gate.proofs.Writes.{limits_good}

@@ -13,7 +13,7 @@ use Rattle.gate.specs.Bytes.{total, bytes16}
 use Rattle.gate.specs.Limit.{bits16, travel_of}
 use Rattle.gate.specs.Form.{padded_of, body_of, record_of}
 use Rattle.gate.specs.Reading.{closed_at, opened_at, label_at, padding_at, sum_at, is_free, label_fits, read_of}
-use Rattle.gate.specs.declared.answer.Read.TheVariants.{Good}
+use Rattle.gate.specs.Answer.{Good}
 use Rattle.gate.proofs.Numbers.{signed_bits, pair_bytes}
 use Rattle.gate.proofs.Labels.{each_miss, all_replicate}
 use Rattle.gate.proofs.Answers.{Passed, passed_good}

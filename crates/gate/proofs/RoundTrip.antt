@@ -15,7 +15,7 @@ use Rattle.gate.specs.Limit.{bits16, signed16, travel_of}
 use Rattle.gate.specs.Form.{limit_bytes, padded_of, body_of, sealed_of, record_of}
 use Rattle.gate.specs.Writing.{write_of, written_of}
 use Rattle.gate.specs.Reading.{closed_at, opened_at, state_at, length_at, label_at, padding_at, read_of}
-use Rattle.gate.specs.declared.answer.Read.TheVariants.{Good}
+use Rattle.gate.specs.Answer.{Good}
 use Rattle.gate.proofs.Truth.{and_left, and_right}
 use Rattle.gate.proofs.Numbers.{bits_signed, bytes_pair}
 use Rattle.gate.proofs.Labels.{replicate_all}

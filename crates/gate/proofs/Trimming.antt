@@ -16,10 +16,8 @@ use lib.Seq.{take-take}
 use Rattle.gate.specs.Label.{trimmed_length}
 use Rattle.gate.specs.Writing.{write_of, written_of}
 use Rattle.gate.specs.Reading.{read_of}
-use Rattle.gate.specs.Answer.{is_good}
+use Rattle.gate.specs.Answer.{Read, Good, Free, Refused, is_good}
 use Rattle.gate.specs.Naming.{own_length, name_of}
-use Rattle.gate.specs.declared.answer.Read.{Read}
-use Rattle.gate.specs.declared.answer.Read.TheVariants.{Good, Free, Refused}
 use Rattle.gate.proofs.Truth.{by_test}
 use Rattle.gate.proofs.Answers.{good_length}
 use Rattle.gate.proofs.Names.{standard_name, own_name, good_own}

@@ -1,56 +1,47 @@
--- Laws of the definitions that go along a list, one byte a turn: what a loop's turn leaves to be shown.
+-- Laws of the definitions that go along a list: std has the same walks under other names, and what is left of a label is what stands
+-- up to the last byte that is no space.
 -- Assumes nothing.
-use mathlib.Core.Path.{◌≡◌, refl}
-use mathlib.Core.Bool.{Bool, true, false, cond, ◌&&◌}
+use mathlib.Core.Path.{◌≡◌, refl, ◌∙◌}
+use mathlib.Core.Bool.{Bool, ◌&&◌}
 use mathlib.Core.List.{List}
-use Prim.Native.Nat.{ℕ, zero, suc, ◌+◌, ◌-◌, ◌≤◌, ◌<◌}
-use native.Mathlib.Nat.{not-suc-le-zero}
-use native.Mathlib.Numerals.{add-one, sub-one}
-use borrow.Author.Tests.{ne_eqb}
+use Prim.Native.Nat.{ℕ, zero, suc, ◌+◌, ◌≤◌, ◌<◌}
+use native.Mathlib.Omega.{arith}
+use native.Mathlib.Numerals.{add-one}
+use borrow.Author.Tests.{eqb-true, eqb-false, ne_eqb}
 use lib.Dec.{eqb}
-use lib.ListN.{length, get_or, drop, drop_of_length-le}
-use lib.Seq.{drop-cons}
+use lib.ListN.{length, get_or}
+use Rattle.std.specs.List.{list_all, sum}
+use Rattle.std.proofs.lemmas.List.Recursion.{same_from_clauses, is_sum_by}
 use Rattle.gate.specs.Bytes.{each_byte, total}
 use Rattle.gate.specs.Label.{trimmed_length}
+use Rattle.gate.proofs.Truth.{by_test}
 
-module _ (test : ℕ → Bool) (s : List ℕ) (i : ℕ) where
-  -- the bytes from byte i on pass where the byte at i and those behind it pass
-  pub each_step : i < length s → each_byte test (drop i s) ≡ test (get_or s i 0) && each_byte test (drop (i + 1) s)
-  each_step h = rw (add-one, drop-cons s i 0)
+-- a test of each byte
+pub each_is : (test : ℕ → Bool) (s : List ℕ) → each_byte test s ≡ list_all test s
+each_is test = same_from_clauses (each_byte test) (list_all test) (λ b rest. test b && rest) refl (λ _ _. refl) (λ _ _. refl)
 
-  -- one byte that fails is enough
-  pub each_stop : i < length s → test (get_or s i 0) ≡ false → each_byte test (drop i s) ≡ false
-  each_stop h e = rw (each_step, e)
+-- the sum
+pub total_is : (s : List ℕ) → total s ≡ sum s
+total_is = is_sum_by total (λ b. b) refl (λ _ _. refl)
 
-  -- a byte that passes leaves the rest to be asked
-  pub each_more : i < length s → test (get_or s i 0) ≡ true → each_byte test (drop i s) ≡ each_byte test (drop (i + 1) s)
-  each_more h e = rw (each_step, e)
-
-  -- past the end nothing is left to fail
-  pub each_end : length s ≤ i → each_byte test (drop i s) ≡ true
-  each_end h = rw (drop_of_length-le s)
-
-module _ (s : List ℕ) (i : ℕ) where
-  -- the sum from byte i on is the byte there and the sum behind it
-  pub total_step : i < length s → total (drop i s) ≡ get_or s i 0 + total (drop (i + 1) s)
-  total_step h = rw (add-one, drop-cons s i 0)
-
-  -- past the end the sum is 0
-  pub total_end : length s ≤ i → total (drop i s) ≡ 0
-  total_end h = rw (drop_of_length-le s)
-
--- of n bytes, one at least, the last is trimmed where it is a space
-pub trim_step : (s : List ℕ) (n : ℕ) → 0 < n → trimmed_length s n ≡ cond (eqb (get_or s (n - 1) 0) 0x20) (trimmed_length s (n - 1)) n
+-- spaces at the end are trimmed
+trim_spaces : (s : List ℕ) (m n : ℕ) → m ≤ n → ((k : ℕ) → m ≤ k → k < n → get_or s k 0 ≡ 0x20) → trimmed_length s n ≡ trimmed_length s m
 unfolding trimmed_length
-trim_step s zero h = absurd (not-suc-le-zero h)
-trim_step s (suc n) h = rw sub-one
+trim_spaces s m zero h spaces = rw (let e : m ≡ 0 = omega arith in e)
+trim_spaces s m (suc n) h spaces =
+    by_test (eqb m (suc n))
+    (λ e. rw (eqb-true m (suc n) e))
+    (λ e.
+    let less : m ≤ n = omega (arith, eqb-false m (suc n) e) in
+    rw (spaces n less (omega arith)) (trim_spaces s m n less (λ k low high. spaces k low (omega arith))))
 
--- where the last of them is no space, all n are left
-pub trim_stop : (s : List ℕ) (n : ℕ) → 0 < n → (get_or s (n - 1) 0 ≡ 0x20 → ⊥) → trimmed_length s n ≡ n
-trim_stop s n h other = rw (trim_step s n h, ne_eqb (get_or s (n - 1) 0) 0x20 other)
-
--- of no bytes, none is left
-pub trim_none : (s : List ℕ) (n : ℕ) → n ≤ 0 → trimmed_length s n ≡ 0
+-- up to the last byte that is no space all are left
+pub trim_last : (s : List ℕ) (i : ℕ) → i < length s → (get_or s i 0 ≡ 0x20 → ⊥) → ((k : ℕ) → i + 1 ≤ k → k < length s → get_or s k 0 ≡ 0x20) → trimmed_length s (length s) ≡ i + 1
 unfolding trimmed_length
-trim_none s zero h = refl
-trim_none s (suc n) h = absurd (not-suc-le-zero h)
+trim_last s i h other spaces =
+    trim_spaces s (i + 1) (length s) (omega arith) spaces ∙ rw (add-one, ne_eqb (get_or s i 0) 0x20 other)
+
+-- of spaces alone, none is left
+pub trim_all : (s : List ℕ) → ((k : ℕ) → k < length s → get_or s k 0 ≡ 0x20) → trimmed_length s (length s) ≡ 0
+unfolding trimmed_length
+trim_all s spaces = trim_spaces s 0 (length s) (omega arith) (λ k low high. spaces k high)

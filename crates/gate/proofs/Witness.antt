@@ -15,7 +15,7 @@ use Rattle.gate.specs.Writing.{write_of, written_of}
 use Rattle.gate.specs.Reading.{read_of}
 use Rattle.gate.specs.Limiting.{limits_of, limited_of}
 use Rattle.gate.specs.Naming.{name_of}
-use Rattle.gate.specs.declared.answer.Read.TheVariants.{Good, Refused}
+use Rattle.gate.specs.Answer.{Good, Refused}
 use Rattle.gate.proofs.Numbers.{pair_bytes}
 use Rattle.gate.proofs.Labels.{label_erased, label_gap}
 use Rattle.gate.proofs.RoundTrip.{written_read, bytes_below, read_written}

@@ -2,6 +2,8 @@
 --
 -- | Name | Meaning |
 -- |---|---|
+-- | `Read` | what reading answers: a good record, a free one, or the number of a refusal |
+-- | `read_as` | what an answer of the code stands for |
 -- | `zeros_of` | a number, with zeros for the limits, the travel and the label length |
 -- | `given_of` | the number and the values of an answer |
 -- | `needs_gate answer rest` | the refusal of an operation that needs a gate's record: what reading refuses, or else the rest |
@@ -10,10 +12,23 @@
 -- | `refused_by` | the answer is the refusal of this number |
 -- | `one_if` | 1 for a test that passes, else 0 |
 -- | `outcomes` | how many of good, free, 12, 13 and 14 the answer is |
-use Rattle.std.specs.Prelude.{ℕ, ◌+◌, Bool, true, false, cond, eqb, pos}
-use Rattle.gate.specs.declared.answer.Read.{Read}
-use Rattle.gate.specs.declared.answer.Read.TheVariants.{Good, Free, Refused}
+use Rattle.std.specs.Prelude.{ℕ, ◌+◌, Bool, true, false, cond, eqb, ℤ, pos, Option, Some, None, Result, Ok, Err}
+use Rattle.refusals.specs.Refusals.{number_of}
+use Rattle.refusals.specs.declared.Refusal.{Refusal}
+use Rattle.gate.specs.declared.answer.Gate.{Gate}
 use Rattle.gate.specs.declared.answer.Given.{Given}
+
+-- G11: a good record with its limits, its travel and the length of its label as stored; a free one, all FFh; or a refusal
+pub data Read : Type 0 where
+  Good : ℤ → ℤ → ℤ → ℕ → Read
+  Free : Read
+  Refused : ℕ → Read
+
+-- G11, G14: a gate is a good record, none a free one
+abbrev pub read_as : Result (Option Gate) Refusal → Read
+read_as (Ok (Some gate)) = Good gate.closed gate.opened gate.travel gate.length
+read_as (Ok None) = Free
+read_as (Err refusal) = Refused (number_of refusal)
 
 -- O9: limits and travel 0, label length 0
 abbrev pub zeros_of : ℕ → Given

@@ -9,8 +9,7 @@
 use Rattle.std.specs.Prelude.{ℕ, true, false, cond, List, eqb, length, take, drop}
 use Rattle.gate.specs.Label.{trimmed_length}
 use Rattle.gate.specs.Reading.{read_of}
-use Rattle.gate.specs.declared.answer.Read.{Read}
-use Rattle.gate.specs.declared.answer.Read.TheVariants.{Good, Free, Refused}
+use Rattle.gate.specs.Answer.{Read, Good, Free, Refused}
 use Rattle.gate.specs.declared.answer.Shown.{Shown}
 
 -- G20: the record's label without its trailing spaces; none where the record is free or refused

@@ -14,8 +14,7 @@ use Rattle.std.specs.Prelude.{ℕ, ◌+◌, ◌-◌, Bool, cond, not, ◌&&◌, 
 use Rattle.gate.specs.Bytes.{all, total, pair}
 use Rattle.gate.specs.Limit.{limits_refusal, signed16, travel_of}
 use Rattle.gate.specs.Label.{is_label}
-use Rattle.gate.specs.declared.answer.Read.{Read}
-use Rattle.gate.specs.declared.answer.Read.TheVariants.{Good, Free, Refused}
+use Rattle.gate.specs.Answer.{Read, Good, Free, Refused}
 
 -- G2: bytes 0–1 closed limit
 abbrev pub closed_at : List ℕ → ℤ

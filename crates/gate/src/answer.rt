@@ -1,23 +1,17 @@
-// What the operations on a record answer: an enum for reading, its values for a caller that cannot take an enum, and a span.
+// What the operations on a record answer: a gate for reading, its values for a caller that cannot take a `Result`, and a span.
 ghost use Rattle.std.specs.Prelude.{◌≡◌};
-ghost use Rattle.gate.specs.Answer.{zeros_of, given_of};
+ghost use Rattle.gate.specs.Answer.{zeros_of, given_of, read_as};
 
-// What reading a record finds.
-#[derive(Clone, Copy)]
-pub enum Read {
-    // A gate: its limits, its travel and the length of its label as stored.
-    Good {
-        closed: i16,
-        opened: i16,
-        travel: i32,
-        length: usize,
-    },
-    // All FFh: no gate.
-    Free,
-    // No record, with the number of the refusal.
-    Refused {
-        number: u8,
-    },
+use refusals::Refusal;
+
+// What a good record holds.
+#[derive(Clone, Copy, Debug, PartialEq, Eq)]
+pub struct Gate {
+    pub closed: i16,
+    pub opened: i16,
+    pub travel: i32,
+    // The length of its label as stored.
+    pub length: usize,
 }
 
 // The values of an answer of reading: the number of the refusal, or 0; and what a good record holds, or zeros.
@@ -43,26 +37,30 @@ fn zeros(number: u8) -> Given
     }
 }
 
-impl Read {
+impl From<Result<Option<Gate>, Refusal>> for Given {
+    ghost from_gives = { λ answer given. given ≡ given_of (read_as answer) };
+
     // The values of the answer.
-    pub fn given(self) -> Given
-        ensures { result ≡ given_of self }
-    {
-        match self {
-            Read::Good {
-                closed,
-                opened,
-                travel,
-                length,
-            } => Given {
+    fn from(answer: Result<Option<Gate>, Refusal>) -> Given {
+        match answer {
+            Ok(
+                Some(
+                    Gate {
+                        closed,
+                        opened,
+                        travel,
+                        length,
+                    },
+                ),
+            ) => Given {
                 number: 0,
                 closed,
                 opened,
                 travel,
                 length,
             },
-            Read::Free => zeros(0),
-            Read::Refused { number } => zeros(number),
+            Ok(None) => zeros(0),
+            Err(refusal) => zeros(refusal.number()),
         }
     }
 }

@@ -3,7 +3,7 @@ ghost use Rattle.std.specs.Prelude.{◌≡◌, true, ◌++◌, ◌≤◌, length
 ghost use Rattle.gate.specs.Limit.{in_range};
 ghost use Rattle.gate.specs.Form.{limit_bytes, front_of, sealed_of, record_of};
 
-use crate::bytes::{copy_at, fill, put_pair, sum};
+use crate::bytes::{put_pair, sum};
 use crate::limit::bits_of;
 
 // How many bytes a record has.
@@ -36,7 +36,7 @@ fn put_front(buffer: &mut [u8], closed: i32, opened: i32, n: u8)
     requires { (length buffer.old ≡ 32) × ((in_range closed ≡ true) × (in_range opened ≡ true)) }
     ensures { buffer.new ≡ front_of closed opened n ++ replicate 26 0x20 }
 {
-    fill(buffer, 0x20);
+    buffer.fill(0x20);
     put_limits(buffer, closed, opened);
     buffer[4] = 0xa5;
     buffer[5] = n;
@@ -49,6 +49,6 @@ pub(crate) fn put_record(buffer: &mut [u8], closed: i32, opened: i32, label: &[u
     ensures { buffer.new ≡ record_of closed opened label.now }
 {
     put_front(buffer, closed, opened, label.len() as u8);
-    copy_at(buffer, 6, label);
+    buffer[6..6 + label.len()].copy_from_slice(label);
     seal(buffer);
 }

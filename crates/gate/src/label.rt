@@ -7,36 +7,24 @@ ghost use Rattle.gate.specs.Label.{label_byte, is_label, trimmed_length};
 pub(crate) fn label_byte(b: u8) -> bool
     ensures { result ≡ label_byte b }
 {
-    ((0x20 <= b) & (b <= 0x7e)) | ((0xa1 <= b) & (b <= 0xfe))
+    matches!(b, 0x20..=0x7e | 0xa1..=0xfe)
 }
 
 // Whether each byte of s may stand in a label.
+#[tactic(auto, using(crate::proofs::Walks::each_is))]
 pub(crate) fn is_label(s: &[u8]) -> bool
     ensures { result ≡ is_label s.now }
 {
-    let mut i = 0;
-    while i < s.len() {
-        let good = label_byte(s[i]);
-        if !good {
-            return false;
-        }
-        i += 1;
-    }
-    true
+    s.iter().all(|b| label_byte(*b))
 }
 
 // How many bytes of s are left without the spaces at its end.
-#[tactic(auto, using(crate::proofs::Walks::trim_step, crate::proofs::Walks::trim_stop, crate::proofs::Walks::trim_none))]
+#[tactic(auto, using(crate::proofs::Walks::trim_last, crate::proofs::Walks::trim_all))]
 pub(crate) fn trimmed(s: &[u8]) -> usize
     ensures { (result ≡ trimmed_length s.now (length s.now)) × (result ≤ length s.now) }
 {
-    let mut n = s.len();
-    while 0 < n {
-        let last = n - 1;
-        if s[last] != 0x20 {
-            return n;
-        }
-        n = last;
+    match s.iter().rposition(|b| *b != 0x20) {
+        Some(last) => last + 1,
+        None => 0,
     }
-    0
 }

@@ -3,7 +3,7 @@ ghost use Rattle.std.specs.Prelude.{◌≡◌};
 ghost use Rattle.gate.specs.Reading.{read_of};
 ghost use Rattle.gate.specs.Naming.{own_length, span_of, name_of};
 
-use crate::answer::{Read, Shown};
+use crate::answer::Shown;
 use crate::label::trimmed;
 use crate::reading::read;
 
@@ -12,11 +12,10 @@ use crate::reading::read;
 fn own_length(bytes: &[u8]) -> usize
     ensures { result ≡ own_length bytes.now (read_of bytes.now) }
 {
-    let Read::Good { length, .. } = read(bytes) else {
+    let Ok(Some(gate)) = read(bytes) else {
         return 0;
     };
-    let end = 6 + length;
-    trimmed(&bytes[6..end])
+    trimmed(&bytes[6..6 + gate.length])
 }
 
 // Where the name shown lies (which slice, from where, how many bytes), for a caller that cannot take a slice back.
@@ -48,6 +47,5 @@ pub fn shown_name<'a>(bytes: &'a [u8], standard: &'a [u8]) -> &'a [u8]
     if len == 0 {
         return standard;
     }
-    let end = 6 + len;
-    &bytes[6..end]
+    &bytes[6..6 + len]
 }

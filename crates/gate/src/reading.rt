@@ -1,13 +1,15 @@
 // Reading a record: the refusals in their order, then what it holds.
 ghost use Rattle.std.specs.Prelude.{◌≡◌, eqb, length, take};
+ghost use Rattle.gate.specs.Answer.{read_as};
 ghost use Rattle.gate.specs.Bytes.{total};
 ghost use Rattle.gate.specs.Reading.{is_free, sum_at, label_fits, content_of, read_of};
 
-use crate::answer::Read;
+use crate::answer::Gate;
 use crate::bytes::{all_are, pair_at, sum};
 use crate::form::{LABEL_BYTES, RECORD_BYTES};
 use crate::label::is_label;
-use crate::limit::{limit_of, limits_refusal, travel_of};
+use crate::limit::{check_limits, limit_of, travel_of};
+use refusals::Refusal;
 
 // Whether the stored sum is that of bytes 0-29.
 fn sum_right(bytes: &[u8]) -> bool
@@ -23,36 +25,31 @@ fn label_fits(bytes: &[u8]) -> bool
     requires { length bytes.now ≡ 32 }
     ensures { result ≡ label_fits bytes.now }
 {
-    let n = bytes[5] as usize;
-    if LABEL_BYTES < n {
+    let length = usize::from(bytes[5]);
+    if LABEL_BYTES < length {
         return false;
     }
-    let end = 6 + n;
-    if !is_label(&bytes[6..end]) {
-        return false;
-    }
-    all_are(&bytes[end..30], 0x20)
+    let end = 6 + length;
+    is_label(&bytes[6..end]) && all_are(&bytes[end..30], 0x20)
 }
 
-// What a record whose label fits gives, or the refusal of its limits.
+// The gate of a record whose label fits, unless its limits are refused.
 #[tactic(auto, using(crate::proofs::Numbers::wide_back), unfolding(crate::specs::Reading::content_of))]
-fn content(bytes: &[u8]) -> Read
+fn content(bytes: &[u8]) -> Result<Option<Gate>, Refusal>
     requires { length bytes.now ≡ 32 }
-    ensures { result ≡ content_of bytes.now }
+    ensures { read_as result ≡ content_of bytes.now }
 {
     let closed = limit_of(pair_at(bytes, 0));
     let opened = limit_of(pair_at(bytes, 2));
-    if limits_refusal(closed as i32, opened as i32) != 0 {
-        return Read::Refused { number: 14 };
+    if check_limits(i32::from(closed), i32::from(opened)).is_err() {
+        return Err(Refusal::RecordContent);
     }
-    let length = bytes[5] as usize;
-    let travel = travel_of(closed, opened);
-    Read::Good {
+    Ok(Some(Gate {
         closed,
         opened,
-        travel,
-        length,
-    }
+        travel: travel_of(closed, opened),
+        length: usize::from(bytes[5]),
+    }))
 }
 
 // Whether all bytes are FFh: 32 of them are a free record.
@@ -63,25 +60,25 @@ pub fn is_free(bytes: &[u8]) -> bool
     all_are(bytes, 0xff)
 }
 
-// What 32 bytes hold as a record; any other number of bytes is refused.
+// The gate that 32 bytes hold as a record, or none where the record is free; any other number of bytes is refused.
 #[tactic(auto, unfolding(crate::specs::Reading::read_of))]
-pub fn read(bytes: &[u8]) -> Read
-    ensures { result ≡ read_of bytes.now }
+pub fn read(bytes: &[u8]) -> Result<Option<Gate>, Refusal>
+    ensures { read_as result ≡ read_of bytes.now }
 {
     if bytes.len() != RECORD_BYTES {
-        return Read::Refused { number: 7 };
+        return Err(Refusal::RecordLength);
     }
     if is_free(bytes) {
-        return Read::Free;
+        return Ok(None);
     }
     if bytes[4] != 0xa5 {
-        return Read::Refused { number: 12 };
+        return Err(Refusal::NoGate);
     }
     if !sum_right(bytes) {
-        return Read::Refused { number: 13 };
+        return Err(Refusal::RecordSum);
     }
     if !label_fits(bytes) {
-        return Read::Refused { number: 14 };
+        return Err(Refusal::RecordContent);
     }
     content(bytes)
 }

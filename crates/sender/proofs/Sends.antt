@@ -10,6 +10,9 @@ use lib.Dec.{ltb}
 use lib.IntN.{ℤ}
 use lib.ListN.{length, set, take, drop, length-append}
 use lib.Seq.{sets-eq, take_at}
+use Rattle.std.specs.Prelude.{Result, Ok, Err}
+use Rattle.refusals.specs.declared.Refusal.{Refusal}
+use Rattle.refusals.proofs.Numbers.{same_refusal, never_0}
 use Rattle.parts.specs.Register.{has_register}
 use Rattle.parts.specs.Rows.{every}
 use Rattle.parts.proofs.RowLaws.{every_on}
@@ -22,9 +25,16 @@ use Rattle.gate.proofs.RoundTrip.{written_read}
 use Rattle.messages.specs.Messages.{message, register_write}
 use Rattle.messages.specs.Wires.{Wires}
 use Rattle.messages.proofs.Spelling.{spelled_events, message_length}
-use Rattle.sender.specs.Sending.{low, over, pel_message, lead, event_count, sent_events, send_refusal, sent_buffer}
+use Rattle.sender.specs.Sending.{Sent, sent_as, low, over, pel_message, lead, event_count, sent_events, send_refusal, sent_buffer}
 use Rattle.sender.proofs.Overs.{over_front, over_then, over_length}
 use Rattle.sender.proofs.Lows.{low_length, low_then}
+
+-- two answers of the code that stand for the same are one
+pub same_sent : (a b : Result ℕ Refusal) → sent_as a ≡ sent_as b → a ≡ b
+same_sent (Ok m) (Ok n) e = ap (λ (s : Sent). Ok s.count) e
+same_sent (Ok n) (Err why) e = absurd (never_0 why (sym (ap (λ (s : Sent). s.refusal) e)))
+same_sent (Err why) (Ok n) e = absurd (never_0 why (ap (λ (s : Sent). s.refusal) e))
+same_sent (Err a) (Err b) e = ap Err (same_refusal a b (ap (λ (s : Sent). s.refusal) e))
 
 -- what can be sent
 pub record Sendable (part select gate : ℕ) (bytes : List ℕ) (room : ℕ) : Type 0 where

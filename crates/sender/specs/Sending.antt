@@ -3,6 +3,8 @@
 --
 -- | Name | Meaning |
 -- |---|---|
+-- | `Sent` | the number of a refusal or 0, and how many events were written |
+-- | `sent_as` | what an answer of the code stands for |
 -- | `low wires` | the event bytes of wires, with the protect pin low throughout |
 -- | `pel_message part select` | the message that sets PEL, where the part has one |
 -- | `lead part` | how many events that message takes |
@@ -12,14 +14,25 @@
 -- | `sent_of` | the answer: the refusal, and the number of events |
 -- | `sent_buffer` | the lent buffer at exit |
 -- | `over at new old` | a buffer in which new bytes stand from a place on |
-use Rattle.std.specs.Prelude.{ℕ, ◌+◌, ◌*◌, false, cond, List, [], ◌∷◌, ◌++◌, ltb, length, take, drop}
+use Rattle.std.specs.Prelude.{ℕ, ◌+◌, ◌*◌, false, cond, List, [], ◌∷◌, ◌++◌, ltb, length, take, drop, Result, Ok, Err}
+use Rattle.refusals.specs.Refusals.{number_of}
+use Rattle.refusals.specs.declared.Refusal.{Refusal}
 use Rattle.gate.specs.Answer.{needs_gate}
 use Rattle.gate.specs.Reading.{read_of}
 use Rattle.parts.specs.Register.{has_register}
 use Rattle.trace.specs.Trace.{unless}
 use Rattle.messages.specs.Messages.{message, register_write}
 use Rattle.messages.specs.Wires.{Wires, spelled}
-use Rattle.sender.specs.declared.Sent.{Sent}
+
+-- A4, O9: the refusal and the number of events
+pub record Sent : Type 0 where
+  pub refusal : ℕ
+  pub count : ℕ
+
+-- O9: a refusal writes none
+abbrev pub sent_as : Result ℕ Refusal → Sent
+sent_as (Ok count) = record { refusal = 0; count = count }
+sent_as (Err why) = record { refusal = number_of why; count = 0 }
 
 -- A2: protect pin low throughout
 abbrev pub low : List Wires → List ℕ

@@ -3,14 +3,15 @@
 #![tactic(auto)]
 
 ghost use Rattle.std.specs.Prelude.{◌≡◌};
-ghost use Rattle.sender.specs.Sending.{event_count, send_refusal, sent_of, sent_buffer};
+ghost use Rattle.refusals.specs.Refusals.{status_of};
+ghost use Rattle.sender.specs.Sending.{event_count, send_refusal, sent_as, sent_of, sent_buffer};
 
 mod spelling;
 
 use crate::spelling::{put_lead, put_message};
-use gate::answer::Read;
 use gate::read;
 use parts::register::has_register;
+use refusals::Refusal;
 
 // How many events a record takes: 77 that set PEL, 635 after which it waits, and the program-done that stores it.
 pub const EVENTS: usize = 713;
@@ -18,70 +19,57 @@ pub const EVENTS: usize = 713;
 // How many on the part without a register, which has no PEL.
 pub const EVENTS_X24F129: usize = 636;
 
-// What sending answers: the number of the refusal or 0, and how many events were written.
-#[derive(Clone, Copy)]
-pub struct Sent {
-    pub refusal: u8,
-    pub count: u16,
-}
-
 // How many events a record takes on this part.
 fn event_count(part: u8) -> usize
     ensures { result ≡ event_count part }
 {
     if has_register(part) {
-        return EVENTS;
+        EVENTS
+    } else {
+        EVENTS_X24F129
     }
-    EVENTS_X24F129
 }
 
-// The first refusal that applies, or 0: what reading refuses, a free record as 12, then 15, 16, 3, 17.
+// Refuses by the first refusal that applies: what reading refuses, a free record as no gate, then the gate, the select, the part and
+// the room.
 #[tactic(auto, unfolding(crate::specs::Sending::send_refusal))]
-fn refusal(part: u8, select: u8, gate: u16, bytes: &[u8], room: usize) -> u8
-    ensures { result ≡ send_refusal part select gate bytes.now room }
+fn check(part: u8, select: u8, gate: u16, bytes: &[u8], room: usize) -> Result<(), Refusal>
+    ensures { status_of result ≡ send_refusal part select gate bytes.now room }
 {
-    let found = read(bytes);
-    let Read::Good { .. } = found else {
-        let Read::Refused { number } = found else {
-            return 12;
-        };
-        return number;
-    };
+    if read(bytes)?.is_none() {
+        return Err(Refusal::NoGate);
+    }
     if 511 < gate {
-        return 15;
+        return Err(Refusal::GateNumber);
     }
     if 7 < select {
-        return 16;
+        return Err(Refusal::Select);
     }
     if 2 < part {
-        return 3;
+        return Err(Refusal::NoSuchChip);
     }
     if room < event_count(part) {
-        return 17;
+        return Err(Refusal::EventRoom);
     }
-    0
+    Ok(())
 }
 
 // Writes the events that set PEL, where the part has one, and put a good record into the sector of its gate, protect pin low in each, and
-// answers their number. Refused with 7, 12 (a free record too), 13, 14, 15, 16, 3 or 17 it answers 0 and writes nothing. Bytes past the
-// events stay.
-#[tactic(auto, unfolding(crate::specs::Sending::sent_of, crate::specs::Sending::sent_buffer, trace::specs::Trace::unless))]
-pub fn send(part: u8, select: u8, gate: u16, bytes: &[u8], events: &mut [u8]) -> Sent
-    ensures value { result ≡ sent_of part select gate bytes.now events.old }
+// answers their number. Refused, also with a free record, it writes nothing. Bytes past the events stay.
+#[tactic(auto, using(crate::proofs::Sends::send_taken, crate::proofs::Sends::lead_count), unfolding(crate::specs::Sending::sent_of, crate::specs::Sending::sent_buffer, trace::specs::Trace::unless))]
+pub fn send(
+    part: u8,
+    select: u8,
+    gate: u16,
+    bytes: &[u8],
+    events: &mut [u8],
+) -> Result<u16, Refusal>
+    ensures value { sent_as result ≡ sent_of part select gate bytes.now events.old }
     ensures events_after { events.new ≡ sent_buffer part select gate bytes.now events.old }
 {
-    let number = refusal(part, select, gate, bytes, events.len());
-    if number != 0 {
-        return Sent {
-            refusal: number,
-            count: 0,
-        };
-    }
+    check(part, select, gate, bytes, events.len())?;
     let lead = put_lead(events, part, select);
     put_message(events, lead, select, gate * 32, bytes);
     events[lead + 635] = 8;
-    Sent {
-        refusal: 0,
-        count: (lead + 636) as u16,
-    }
+    Ok((lead + 636) as u16)
 }

@@ -22,10 +22,8 @@ fn put_byte(events: &mut [u8], at: usize, byte: u8)
     requires { at + 18 ≤ length events.old }
     ensures { events.new ≡ over at (low (byte_sent byte)) events.old }
 {
-    let mut k: u8 = 0;
-    while k < 8 {
-        put_clock(events, at + k as usize * 2, bit_of(byte, 7 - k));
-        k = k + 1;
+    for k in 0..8 {
+        put_clock(events, at + usize::from(k) * 2, bit_of(byte, 7 - k));
     }
     put_clock(events, at + 16, true);
 }
@@ -35,10 +33,8 @@ fn put_bytes(events: &mut [u8], at: usize, bytes: &[u8])
     requires { at + 18 * length bytes.now ≤ length events.old }
     ensures { events.new ≡ over at (low (bytes_sent bytes.now)) events.old }
 {
-    let mut i: usize = 0;
-    while i < bytes.len() {
-        put_byte(events, at + i * 18, bytes[i]);
-        i = i + 1;
+    for (i, byte) in bytes.iter().enumerate() {
+        put_byte(events, at + i * 18, *byte);
     }
 }
 
@@ -68,8 +64,9 @@ pub(crate) fn put_message(events: &mut [u8], at: usize, select: u8, address: u16
 {
     put_begin(events, at);
     put_byte(events, at + 2, 0xa0 + select * 2);
-    put_byte(events, at + 20, (address / 256) as u8);
-    put_byte(events, at + 38, (address % 256) as u8);
+    let [high, low] = address.to_be_bytes();
+    put_byte(events, at + 20, high);
+    put_byte(events, at + 38, low);
     put_bytes(events, at + 56, bytes);
     put_end(events, at + 56 + bytes.len() * 18);
 }
@@ -81,7 +78,8 @@ pub(crate) fn put_lead(events: &mut [u8], part: u8, select: u8) -> usize
 {
     if has_register(part) {
         put_message(events, 0, select, 0xffff, &[0x02]);
-        return 77;
+        77
+    } else {
+        0
     }
-    0
 }

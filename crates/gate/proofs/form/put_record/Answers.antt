@@ -1,13 +1,21 @@
-use Rattle.std.proofs.Common.{◌∙◌}
+use Rattle.std.proofs.Common.{◌≡◌, ◌∙◌, ◌+◌, ◌-◌, length, refl, arith}
 use mir.Syntax.{w32}
+use lib.Seq.{paste, take-length}
+use borrow.Rule.Slice.PartMut.{put_mid}
 use Rattle.std.proofs.lemmas.Int.{to_z-of_z}
+use Rattle.std.proofs.lemmas.Slice.{put_mid-paste}
 use Rattle.gate.proofs.Build.{built}
 use Rattle.gate.proofs.form.put_record.Goals as goal
 
 pub returns : goal.returns
 returns c =
     let a = c.args in
+    let label = a.label.now in
+    let headed = c.put_front.new.buffer in
+    let laid : put_mid 6 (6 + length label - 6) headed c.copy_from_slice.new.self ≡ paste headed 6 label (length label) =
+    put_mid-paste 6 (6 + length label - 6) headed _ label (length label) c.copy_from_slice.ensures.after (omega arith) refl
+    in
     c.seal.ensures
-    ∙ built a.closed a.opened a.label.now c.put_front.new.buffer c.copy_at.new.d c.requires.1.0
+    ∙ built a.closed a.opened label headed _ c.requires.1.0
     (c.put_front.ensures ∙ rw (to_z-of_z w32 a.closed c.ranges.closed, to_z-of_z w32 a.opened c.ranges.opened))
-    c.copy_at.ensures
+    (rw take-length at laid)

@@ -1,6 +1,7 @@
 use Rattle.std.proofs.Common.{◌≡◌, ◌∙◌, ℕ, List, take, sym, ap}
 use mir.Syntax.{w32}
 use Rattle.std.proofs.lemmas.Int.{to_z-of_z}
+use Rattle.refusals.specs.Refusals.{status_of}
 use Rattle.gate.specs.Form.{sealed_of}
 use Rattle.gate.specs.Limiting.{limits_of, relimited}
 use Rattle.gate.proofs.Limited.{limited_good}
@@ -12,7 +13,7 @@ returns-clause-bytes c =
     let a = c.args in
     let closed = to_z-of_z w32 a.closed c.ranges.closed in
     let opened = to_z-of_z w32 a.opened c.ranges.opened in
-    let number : c.refusal-number.result ≡ limits_of a.bytes.now a.closed a.opened = c.refusal-number.ensures ∙ rw (closed, opened) in
+    let number : status_of c.check.result ≡ limits_of a.bytes.now a.closed a.opened = c.check.ensures ∙ rw (closed, opened) in
     c.seal.ensures
     ∙ ap (λ (d : List ℕ). sealed_of (take 30 d)) c.put_limits.ensures
-    ∙ rw (closed, opened) (sym (limited_good _ _ _ (sym number ∙ c.if-number-ne0.false)))
+    ∙ rw (closed, opened) (sym (limited_good _ _ _ (sym number ∙ ap status_of c.in_ok-check.was)))
