@@ -1,5 +1,6 @@
 pub mod Clearing
 pub mod Copies
+pub mod Maps
 pub mod RoundTrip
 pub mod Rows
 pub mod Waits
