@@ -25,7 +25,7 @@ pub extern "C" fn crep_new(state: &mut [u8; at::SIZE], part: u8, select: u8) -> 
 {
     let made = Chip::new(part, select);
     let chip = made.chip;
-    *state = pack(chip);
+    *state = pack(&chip);
     made.refusal
 }
 
@@ -46,7 +46,7 @@ pub extern "C" fn crep_run(
         let refused = ran.refusal;
         if refused == 0 {
             let last = ran.chip;
-            *state = pack(last);
+            *state = pack(&last);
             return 0;
         }
         return refused;
@@ -89,7 +89,7 @@ pub extern "C" fn crep_power_up(
         let refused = cut.refusal;
         if refused == 0 {
             let up = cut.chip;
-            *state = pack(up);
+            *state = pack(&up);
             return 0;
         }
         return refused;
@@ -115,7 +115,7 @@ pub extern "C" fn crep_recover(
         let refused = free.refusal;
         if refused == 0 {
             let started = free.chip;
-            *state = pack(started);
+            *state = pack(&started);
             return 0;
         }
         return refused;

@@ -87,7 +87,7 @@ pub extern "C" fn crep_map_run(
         let refused = ran.refusal;
         if refused == 0 {
             let last = ran.chip;
-            *state = pack(last);
+            *state = pack(&last);
             return 0;
         }
         return refused;
@@ -134,7 +134,7 @@ pub extern "C" fn crep_map_power_up(
         let refused = cut.refusal;
         if refused == 0 {
             let up = cut.chip;
-            *state = pack(up);
+            *state = pack(&up);
             return 0;
         }
         return refused;
