@@ -1,6 +1,5 @@
 pub mod Clearing
 pub mod Copies
-pub mod Maps
 pub mod RoundTrip
 pub mod Rows
 pub mod Waits

@@ -85,7 +85,11 @@ fn head_bytes(chip: &Chip) -> [u8; at::PLACES]
 fn flag_bytes(flags: &[bool; Chip::SECTOR]) -> [u8; Chip::SECTOR]
     ensures { result ≡ map flag_byte flags.now }
 {
-    flags.map(flag_byte)
+    let mut bytes = [0; Chip::SECTOR];
+    for (place, on) in flags.iter().enumerate() {
+        bytes[place] = flag_byte(*on);
+    }
+    bytes
 }
 
 // Copies what waits into the bytes of a chip, which end with it.

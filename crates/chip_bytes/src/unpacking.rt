@@ -67,7 +67,11 @@ fn flags_at(state: &[u8; at::SIZE], offset: usize) -> [bool; Chip::SECTOR]
     requires { offset + 32 ≤ size }
     ensures { result ≡ map flag_of (row 32 offset state.now) }
 {
-    row_at(state, offset).map(|byte| byte == 1)
+    let mut flags = [false; Chip::SECTOR];
+    for (place, byte) in state[offset..offset + Chip::SECTOR].iter().enumerate() {
+        flags[place] = *byte == 1;
+    }
+    flags
 }
 
 // What waits in the chip: a sector with its places and bytes, any other with none.
