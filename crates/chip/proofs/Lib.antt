@@ -9,5 +9,6 @@ pub mod RangeLaws
 pub mod RunLaws
 pub mod StepLaws
 pub mod StopLaws
+pub mod ToldLaws
 pub mod TransferLaws
 pub mod ViewLaws

@@ -1,21 +1,24 @@
 // The five functions of a chip.
 ghost use Rattle.std.specs.Prelude.{◌≡◌};
+ghost use Rattle.std.specs.Result.{unwrap_or};
+ghost use Rattle.refusals.specs.Refusals.{number_of, status_of};
 ghost use Rattle.crepulanter.specs.Calls.{unfit, NewSays, EventSays, RunSays, PowerUpSays, RecoverSays};
 
 use chip::chip::Chip;
 use chip_bytes::{at, bytes_fit, pack, unpack};
 use recovery::recover;
+use refusals::{Refusal, status};
 use trace::run;
 
-// The refusal of bytes that no chip has: 1 where the array's length is wrong too, else 2.
+// How bytes are refused that no chip has: first for the array's length, where it is wrong too.
 #[tactic(auto, unfolding(crate::specs::Calls::unfit))]
-fn unfit_number(array: &[u8]) -> u8
-    ensures { result ≡ unfit array.now }
+fn unfit(array: &[u8]) -> Refusal
+    ensures { number_of result ≡ unfit array.now }
 {
     if array.len() == Chip::BYTES {
-        return 2;
+        return Refusal::ChipRange;
     }
-    1
+    Refusal::ArrayLength
 }
 
 // Makes a new chip; refused with 3, the standard chip.
@@ -24,12 +27,31 @@ pub extern "C" fn crep_new(state: &mut [u8; at::SIZE], part: u8, select: u8) -> 
     ensures { NewSays part select result state.new }
 {
     let made = Chip::new(part, select);
-    *state = pack(&made.chip);
-    made.refusal
+    let chip = made.unwrap_or(Chip::standard());
+    *state = pack(&chip);
+    status(&made)
+}
+
+// A trace on the chip of these bytes, which are what it leaves, or stay where it is refused.
+#[tactic(auto, using(crate::proofs::Refusals::unfit_taken), unfolding(crate::specs::Calls::run_number, trace::specs::Trace::unless))]
+fn run_in(
+    state: &mut [u8; at::SIZE],
+    array: &mut [u8],
+    trace: &[u8],
+    answers: &mut [u8],
+) -> Result<(), Refusal>
+    ensures { RunSays state.old array.old trace.now answers.old (status_of result) state.new array.new answers.new }
+{
+    if !bytes_fit(state) {
+        return Err(unfit(&array[..]));
+    }
+    let mut chip = unpack(state);
+    run(&mut chip, array, trace, answers)?;
+    *state = pack(&chip);
+    Ok(())
 }
 
 // Runs a trace. Refused with 1, 2, 4, 5 or 6 it changes nothing and writes no answer.
-#[tactic(auto, using(crate::proofs::Refusals::unfit_taken), unfolding(crate::specs::Calls::run_number, trace::specs::Trace::unless))]
 #[unsafe(no_mangle)]
 pub extern "C" fn crep_run(
     state: &mut [u8; at::SIZE],
@@ -39,17 +61,7 @@ pub extern "C" fn crep_run(
 ) -> u8
     ensures { RunSays state.old array.old trace.now answers.old result state.new array.new answers.new }
 {
-    if bytes_fit(state) {
-        let chip = unpack(state);
-        let ran = run(chip, array, trace, answers);
-        let refused = ran.refusal;
-        if refused == 0 {
-            *state = pack(&ran.chip);
-            return 0;
-        }
-        return refused;
-    }
-    unfit_number(&array[..])
+    status(&run_in(state, array, trace, answers))
 }
 
 // Runs one event, as a trace of one. Refused with 1, 2 or 6 it changes nothing, and answers that the line is high, with note 0.
@@ -69,8 +81,24 @@ pub extern "C" fn crep_event(
     refused
 }
 
+// A power-up of the chip of these bytes, which are what it leaves, or stay where it is refused.
+fn power_up_in(
+    state: &mut [u8; at::SIZE],
+    array: &mut [u8],
+    choices: u32,
+) -> Result<(), Refusal>
+    ensures { PowerUpSays state.old array.old choices (status_of result) state.new array.new 1 }
+{
+    if !bytes_fit(state) {
+        return Err(unfit(&array[..]));
+    }
+    let mut chip = unpack(state);
+    chip.power_up(array, choices)?;
+    *state = pack(&chip);
+    Ok(())
+}
+
 // A power-up with any 32 choices. Refused with 1 or 2 it changes nothing. It answers that the line is high, with note 0, in every case.
-#[tactic(auto, using(crate::proofs::Refusals::unfit_taken), unfolding(crate::specs::Calls::power_up_number, trace::specs::Trace::unless))]
 #[unsafe(no_mangle)]
 pub extern "C" fn crep_power_up(
     state: &mut [u8; at::SIZE],
@@ -81,21 +109,24 @@ pub extern "C" fn crep_power_up(
     ensures { PowerUpSays state.old array.old choices result state.new array.new answer.new }
 {
     *answer = 1;
-    if bytes_fit(state) {
-        let chip = unpack(state);
-        let cut = chip.power_up(array, choices);
-        let refused = cut.refusal;
-        if refused == 0 {
-            *state = pack(&cut.chip);
-            return 0;
-        }
-        return refused;
+    status(&power_up_in(state, array, choices))
+}
+
+// Recovery of the chip of these bytes, which are what it leaves, or stay where it is refused.
+#[tactic(auto, using(crate::proofs::Refusals::unfit_taken), unfolding(crate::specs::Calls::recover_number, trace::specs::Trace::unless))]
+fn recover_in(state: &mut [u8; at::SIZE], array: &mut [u8], pin: u8) -> Result<u8, Refusal>
+    ensures { RecoverSays state.old array.old pin (status_of result) state.new array.new (unwrap_or result 0) }
+{
+    if !bytes_fit(state) {
+        return Err(unfit(&array[..]));
     }
-    unfit_number(&array[..])
+    let mut chip = unpack(state);
+    let pulses = recover(&mut chip, array, pin != 0)?;
+    *state = pack(&chip);
+    Ok(pulses)
 }
 
 // Frees the bus. Refused with 1 or 2 it changes nothing and reports 0 pulses.
-#[tactic(auto, using(crate::proofs::Refusals::unfit_taken), unfolding(crate::specs::Calls::recover_number, trace::specs::Trace::unless))]
 #[unsafe(no_mangle)]
 pub extern "C" fn crep_recover(
     state: &mut [u8; at::SIZE],
@@ -105,17 +136,7 @@ pub extern "C" fn crep_recover(
 ) -> u8
     ensures { RecoverSays state.old array.old pin result state.new array.new pulses.new }
 {
-    if bytes_fit(state) {
-        let chip = unpack(state);
-        let free = recover(chip, array, pin != 0);
-        *pulses = free.pulses;
-        let refused = free.refusal;
-        if refused == 0 {
-            *state = pack(&free.chip);
-            return 0;
-        }
-        return refused;
-    }
-    *pulses = 0;
-    unfit_number(&array[..])
+    let freed = recover_in(state, array, pin);
+    *pulses = freed.unwrap_or(0);
+    status(&freed)
 }

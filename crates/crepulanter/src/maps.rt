@@ -1,13 +1,15 @@
 // The five functions with a map.
 ghost use Rattle.std.specs.Prelude.{◌≡◌};
+ghost use Rattle.refusals.specs.Refusals.{number_of, status_of};
+ghost use Rattle.map.specs.Finding.{found_as};
 ghost use Rattle.map.specs.Sectors.{with_map, build_refusal, built_of};
 ghost use Rattle.crepulanter.specs.Calls.{unfit};
-ghost use Rattle.crepulanter.specs.Maps.{sector_number, found_number, FirstSays, MapEventSays, MapRunSays, MapPowerUpSays};
+ghost use Rattle.crepulanter.specs.Maps.{sector_number, FirstSays, MapEventSays, MapRunSays, MapPowerUpSays};
 
 use chip::chip::Chip;
 use chip_bytes::{at, bytes_fit, pack, unpack};
-use map::finding::Found;
 use map::{build, first_free, power_up, run};
+use refusals::{Refusal, status};
 
 // How many bytes a map has.
 const BYTES: usize = 64;
@@ -15,39 +17,28 @@ const BYTES: usize = 64;
 // What C is told where no sector is found: one past the last.
 const NONE: u16 = 512;
 
-// The refusal of bytes that no chip has, with a map beside them: 1 where the array's length is wrong, 18 where the map's is, else 2.
+// How bytes are refused that no chip has, with a map beside them: first for the array's length, then for the map's, where they are wrong too.
 #[tactic(auto, unfolding(crate::specs::Calls::unfit, map::specs::Sectors::with_map))]
-fn unfit_with_map(array: &[u8], map: &[u8]) -> u8
-    ensures { result ≡ with_map (unfit array.now) map.now }
+fn unfit_with_map(array: &[u8], map: &[u8]) -> Refusal
+    ensures { number_of result ≡ with_map (unfit array.now) map.now }
 {
-    if array.len() == Chip::BYTES {
-        if map.len() == BYTES {
-            return 2;
-        }
-        return 18;
+    if array.len() != Chip::BYTES {
+        return Refusal::ArrayLength;
     }
-    1
+    if map.len() != BYTES {
+        return Refusal::MapLength;
+    }
+    Refusal::ChipRange
 }
 
 // The sector found, or 512.
-fn sector_number(found: Found) -> u16
-    ensures { result ≡ sector_number found }
+fn sector_number(found: &Result<Option<u16>, Refusal>) -> u16
+    ensures { result ≡ sector_number (found_as found.now) }
 {
-    match found {
-        Found::Sector { number } => number,
-        Found::None => NONE,
-        Found::Refused { number: _ } => NONE,
-    }
-}
-
-// The refusal in what was found, or 0.
-fn found_number(found: Found) -> u8
-    ensures { result ≡ found_number found }
-{
-    match found {
-        Found::Sector { number: _ } => 0,
-        Found::None => 0,
-        Found::Refused { number } => number,
+    match *found {
+        Ok(Some(number)) => number,
+        Ok(None) => NONE,
+        Err(_) => NONE,
     }
 }
 
@@ -56,7 +47,7 @@ fn found_number(found: Found) -> u8
 pub extern "C" fn crep_map_build(array: &[u8], map: &mut [u8]) -> u8
     ensures { (result ≡ build_refusal array.now map.old) × (map.new ≡ built_of array.now map.old) }
 {
-    build(array, map)
+    status(&build(array, map))
 }
 
 // The first free sector by a map, or 512 where none is free. Refused with 18 it leaves 512 too.
@@ -65,12 +56,31 @@ pub extern "C" fn crep_map_first(map: &[u8], sector: &mut u16) -> u8
     ensures { FirstSays map.now result sector.new }
 {
     let found = first_free(map);
-    *sector = sector_number(found);
-    found_number(found)
+    *sector = sector_number(&found);
+    status(&found)
+}
+
+// A trace on the chip of these bytes, with the map kept; the bytes are what it leaves, or stay where it is refused.
+#[tactic(auto, using(crate::proofs::Refusals::unfit_map_taken), unfolding(crate::specs::Calls::run_number, trace::specs::Trace::unless))]
+fn run_in(
+    state: &mut [u8; at::SIZE],
+    array: &mut [u8],
+    map: &mut [u8],
+    trace: &[u8],
+    answers: &mut [u8],
+) -> Result<(), Refusal>
+    ensures { MapRunSays state.old array.old map.old trace.now answers.old (status_of result) state.new array.new map.new answers.new }
+{
+    if !bytes_fit(state) {
+        return Err(unfit_with_map(&array[..], &map[..]));
+    }
+    let mut chip = unpack(state);
+    run(&mut chip, array, map, trace, answers)?;
+    *state = pack(&chip);
+    Ok(())
 }
 
 // Runs a trace and keeps the map. Refused with 1, 18, 2, 4, 5 or 6 it changes nothing and writes no answer.
-#[tactic(auto, using(crate::proofs::Refusals::unfit_map_taken), unfolding(crate::specs::Calls::run_number, trace::specs::Trace::unless))]
 #[unsafe(no_mangle)]
 pub extern "C" fn crep_map_run(
     state: &mut [u8; at::SIZE],
@@ -81,17 +91,7 @@ pub extern "C" fn crep_map_run(
 ) -> u8
     ensures { MapRunSays state.old array.old map.old trace.now answers.old result state.new array.new map.new answers.new }
 {
-    if bytes_fit(state) {
-        let chip = unpack(state);
-        let ran = run(chip, array, map, trace, answers);
-        let refused = ran.refusal;
-        if refused == 0 {
-            *state = pack(&ran.chip);
-            return 0;
-        }
-        return refused;
-    }
-    unfit_with_map(&array[..], &map[..])
+    status(&run_in(state, array, map, trace, answers))
 }
 
 // Runs one event, as a trace of one, and keeps the map. Refused with 1, 18, 2 or 6 it changes nothing, and answers that the line is high, with
@@ -113,9 +113,26 @@ pub extern "C" fn crep_map_event(
     refused
 }
 
+// A power-up of the chip of these bytes, with the map kept; the bytes are what it leaves, or stay where it is refused.
+fn power_up_in(
+    state: &mut [u8; at::SIZE],
+    array: &mut [u8],
+    map: &mut [u8],
+    choices: u32,
+) -> Result<(), Refusal>
+    ensures { MapPowerUpSays state.old array.old map.old choices (status_of result) state.new array.new map.new 1 }
+{
+    if !bytes_fit(state) {
+        return Err(unfit_with_map(&array[..], &map[..]));
+    }
+    let mut chip = unpack(state);
+    power_up(&mut chip, array, map, choices)?;
+    *state = pack(&chip);
+    Ok(())
+}
+
 // A power-up with any 32 choices, with the map kept. Refused with 1, 18 or 2 it changes nothing. It answers that the line is high, with note 0,
 // in every case.
-#[tactic(auto, using(crate::proofs::Refusals::unfit_map_taken), unfolding(crate::specs::Calls::power_up_number, trace::specs::Trace::unless))]
 #[unsafe(no_mangle)]
 pub extern "C" fn crep_map_power_up(
     state: &mut [u8; at::SIZE],
@@ -127,15 +144,5 @@ pub extern "C" fn crep_map_power_up(
     ensures { MapPowerUpSays state.old array.old map.old choices result state.new array.new map.new answer.new }
 {
     *answer = 1;
-    if bytes_fit(state) {
-        let chip = unpack(state);
-        let cut = power_up(chip, array, map, choices);
-        let refused = cut.refusal;
-        if refused == 0 {
-            *state = pack(&cut.chip);
-            return 0;
-        }
-        return refused;
-    }
-    unfit_with_map(&array[..], &map[..])
+    status(&power_up_in(state, array, map, choices))
 }

@@ -19,7 +19,11 @@ use Rattle.parts.proofs.CondLaws.{cond_by}
 use Rattle.parts.proofs.RowLaws.{below, each}
 use Rattle.parts.proofs.SectorLaws.{sector_length}
 use Rattle.map.specs.Sectors.{bit_at, TrueMap}
-use Rattle.map.specs.Finding.{Sector, None, Refused, first_from, found_at, first_free, first_read}
+use Rattle.std.specs.Prelude.{Option, Some, None as Nowhere, Result, Ok, Err}
+use Rattle.refusals.specs.Refusals.{number_of}
+use Rattle.refusals.specs.declared.Refusal.{Refusal}
+use Rattle.refusals.proofs.Numbers.{same_refusal}
+use Rattle.map.specs.Finding.{Found, found_as, Sector, None, Refused, first_from, found_at, first_free, first_read}
 use Rattle.map.proofs.MapLaws.{bit_in}
 
 -- r is the first of the n numbers from k on that passes, or k + n where none does
@@ -196,3 +200,18 @@ module _ (m : List ℕ) where
   pub first_refused : (length m ≡ 64 → ⊥) → first_free m ≡ Refused 18
   unfolding first_free
   first_refused other = rw (ne_eqb (length m) 64 other)
+
+-- what an answer of the code stands for has the whole answer: two that stand for one are one
+pub same_found : (a b : Result (Option ℕ) Refusal) → found_as a ≡ found_as b → a ≡ b
+same_found (Ok (Some j)) (Ok (Some k)) e = cc
+same_found (Ok (Some j)) (Ok Nowhere) e = cc
+same_found (Ok (Some j)) (Err r) e = cc
+same_found (Ok Nowhere) (Ok (Some k)) e = cc
+same_found (Ok Nowhere) (Ok Nowhere) e = refl
+same_found (Ok Nowhere) (Err r) e = cc
+same_found (Err r) (Ok (Some k)) e = cc
+same_found (Err r) (Ok Nowhere) e = cc
+same_found (Err r) (Err s) e = ap Err (same_refusal r s (number e))
+  where
+    number : ◌≡◌ {A = Found} (Refused (number_of r)) (Refused (number_of s)) → number_of r ≡ number_of s
+    number e = cc

@@ -3,7 +3,7 @@
 use Prim.Native.Nat.{ℕ, ◌*◌, ◌/◌, ◌%◌, ◌<◌}
 use mathlib.Core.Bool.{Bool, true, false, cond, not, ◌&&◌, ◌||◌, true≢false, false≢true}
 use mathlib.Core.List.{List, [], ◌∷◌, map}
-use mathlib.Core.Path.{◌≡◌, refl, sym, ap, ap₂, ◌∙◌}
+use mathlib.Core.Path.{◌≡◌, refl, sym, ap, ◌∙◌}
 use native.Mathlib.Decide.{ℕ_discrete}
 use native.Mathlib.Omega.{arith}
 use borrow.Author.Tests.{eq-eqb, eqb-true, eqb-false, leb-true}
@@ -18,7 +18,7 @@ use Rattle.parts.specs.declared.wait.Target.TheVariants.{None, Sector, Locks}
 use Rattle.parts.proofs.CondLaws.{cond_by}
 use Rattle.parts.proofs.SectorLaws.{sector_same}
 use Rattle.parts.proofs.WaitLaws.{chosen_none}
-use Rattle.chip.specs.Event.{Answer, next, next_array, refusal, answered, refused, event_answer, event_array}
+use Rattle.chip.specs.Event.{next, next_array, refusal, answered, refused, event_answer, event_array}
 use Rattle.chip.specs.Run.{World, world, step, ran}
 use Rattle.chip.specs.View.{is_sample, choices_of, Touched}
 use Rattle.chip.specs.declared.chip.Chip.{Chip}
@@ -30,8 +30,7 @@ use Rattle.chip.proofs.FitLaws.{fits_of}
 use Rattle.chip.proofs.ViewLaws.{next_length}
 use Rattle.trace.specs.Bytes.{event_of, all_events}
 use Rattle.trace.specs.Trace.{after, run_refusal, unless}
-use Rattle.trace.proofs.RunLaws.{unless_zero, unless_not}
-use Rattle.map.specs.Keeping.{ended, entered_for, kept, kept_over, is_sector, wrote_in, answer_refusal, answer_of, answer_array, answer_map, trace_refusal, trace_array, trace_map, Taken}
+use Rattle.map.specs.Keeping.{ended, entered_for, kept, kept_over, is_sector, wrote_in, answer_refusal, answer_array, answer_map, trace_refusal, trace_array, trace_map, Taken}
 use Rattle.map.specs.Sectors.{used, bit_at, Beside, with_map}
 use Rattle.map.proofs.MapLaws.{entered_bytes, entered_here, entered_beside}
 use Rattle.map.proofs.RunLaws.{kept_event_length}

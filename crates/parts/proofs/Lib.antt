@@ -2,6 +2,7 @@ pub mod ByteLaws
 pub mod CondLaws
 pub mod LoadLaws
 pub mod LockLaws
+pub mod NoteLaws
 pub mod PhaseLaws
 pub mod RegisterLaws
 pub mod RowLaws

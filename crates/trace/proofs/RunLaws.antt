@@ -16,7 +16,10 @@ use Rattle.chip.specs.Run.{World, world, step, note_of, ran}
 use Rattle.chip.specs.declared.chip.Chip.{Chip}
 use Rattle.chip.specs.declared.wire.Event.{Event}
 use Rattle.trace.specs.Bytes.{event_of, all_events, answer_byte}
-use Rattle.trace.specs.Trace.{after, answers_of, run_refusal, unless, ran_of, run_array, run_answers}
+use Rattle.refusals.specs.declared.Refusal.{Refusal}
+use Rattle.refusals.proofs.Numbers.{same_status}
+use Rattle.std.specs.Prelude.{Result}
+use Rattle.trace.specs.Trace.{after, answers_of, run_refusal, unless, Ran, ran_of, ran_as, run_array, run_answers}
 
 -- after i events: the rest of the trace leads where the whole leads, the answers so far and those to come are the whole's,
 -- and the answer bytes past them are as they were
@@ -165,3 +168,7 @@ module _ (c : Chip) (xs bytes old : List ℕ) (taken : refusal c xs ≡ 0) (few 
   pub run_answers_law : run_answers c xs bytes old ≡ answers_of bytes (world c xs) ++ drop (length bytes) old
   unfolding run_answers unless run_refusal
   run_answers_law = rw (taken, le-leb _ _ few, le-leb _ _ fits, events)
+
+-- what a run stands for has its whole answer, and the chip that it left
+pub same_ran : (a b : Result (Unit {0}) Refusal) {c d : Chip} → ran_as a c ≡ ran_as b d → (a ≡ b) × (c ≡ d)
+same_ran a b e = (same_status a b (ap (λ (r : Ran). r.refusal) e), ap (λ (r : Ran). r.chip) e)
