@@ -4,9 +4,7 @@ use mathlib.Core.Path.{◌≡◌, refl}
 use mathlib.Core.List.{List}
 use native.Mathlib.Omega.{arith}
 use Rattle.gate.specs.Reading.{read_of}
-use Rattle.gate.specs.Answer.{given_of}
-use Rattle.gate.specs.declared.answer.Read.{Read}
-use Rattle.gate.specs.declared.answer.Read.TheVariants.{Good, Free, Refused}
+use Rattle.gate.specs.Answer.{Read, Good, Free, Refused, given_of}
 use Rattle.gate.proofs.Answers.{good_length}
 
 short_of : (bytes : List ℕ) (r : Read) → read_of bytes ≡ r → (given_of r).length ≤ 24

@@ -9,12 +9,10 @@ use native.Mathlib.Omega.{arith}
 use lib.Dec.{eqb, ltb}
 use lib.ListN.{length, get_or, take}
 use borrow.Author.Tests.{eq-eqb, ne_eqb, lt-ltb, ltb-true, ltb-false, not-true, not-false}
-use Rattle.gate.specs.Answer.{says_free}
+use Rattle.gate.specs.Answer.{Read, Free, Refused as Wrong, says_free}
 use Rattle.gate.specs.Bytes.{total}
 use Rattle.gate.specs.Limit.{limits_refusal}
 use Rattle.gate.specs.Reading.{closed_at, opened_at, state_at, sum_at, is_free, label_fits, good_of, content_of, read_of}
-use Rattle.gate.specs.declared.answer.Read.{Read}
-use Rattle.gate.specs.declared.answer.Read.TheVariants.{Free, Refused as Wrong}
 use Rattle.parts.specs.Phase.{bit_of}
 use Rattle.parts.specs.Sector.{sector_of}
 use Rattle.parts.proofs.CondLaws.{cond_by}

@@ -21,10 +21,8 @@ use Rattle.chip.proofs.CutLaws.{cut_busy}
 use Rattle.chip.proofs.EventLaws.{taken_of}
 use Rattle.chip.proofs.FitLaws.{fits_of}
 use Rattle.chip.proofs.ViewLaws.{next_told}
-use Rattle.gate.specs.Answer.{is_good}
+use Rattle.gate.specs.Answer.{Read, Free, Refused, is_good}
 use Rattle.gate.specs.Reading.{read_of, is_free}
-use Rattle.gate.specs.declared.answer.Read.{Read}
-use Rattle.gate.specs.declared.answer.Read.TheVariants.{Free, Refused}
 use Rattle.messages.proofs.Writing.{whole_ends}
 use Rattle.promises.specs.Sender.{Wrote}
 use Rattle.promises.specs.Spoil.{spoilt_as}

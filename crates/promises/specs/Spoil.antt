@@ -4,8 +4,7 @@
 -- |---|---|
 -- | `spoilt_as byte` | what reading answers to 32 times this byte: never a gate |
 use Rattle.std.specs.Prelude.{ℕ, cond, eqb}
-use Rattle.gate.specs.declared.answer.Read.{Read}
-use Rattle.gate.specs.declared.answer.Read.TheVariants.{Free, Refused}
+use Rattle.gate.specs.Answer.{Read, Free, Refused}
 
 -- G7, F12, F13: FFh is a free record; A5h is the state byte, and then the sum is wrong; any other is not even that
 abbrev pub spoilt_as : ℕ → Read
