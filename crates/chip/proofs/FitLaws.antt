@@ -11,8 +11,7 @@ use Rattle.parts.specs.Wait.{target_fits, locks_taken}
 use Rattle.parts.specs.declared.wait.Target.{Target}
 use Rattle.parts.proofs.CondLaws.{cond_by, and_left, and_right}
 use Rattle.parts.proofs.WaitLaws.{taken_bl}
-use Rattle.chip.specs.Chip.{chip_fits, cut_register, power_up, new_chip, at_power_up, made}
-use Rattle.chip.specs.declared.chip.Made.{Made}
+use Rattle.chip.specs.Chip.{Made, chip_fits, cut_register, power_up, new_chip, at_power_up, made}
 use Rattle.chip.specs.declared.chip.Chip.{Chip}
 
 -- the seven ranges that refusal 2 looks at

@@ -22,12 +22,10 @@ use Rattle.parts.proofs.SectorLaws.{next_place_fits, next_address_fits}
 use Rattle.chip.specs.Chip.{with_transfer, with_cycle, cut_register, cut_array, power_up}
 use Rattle.chip.specs.Event.{next, next_array, sampled, judged, reacted, edge_in, line_in, program_done, settled}
 use Rattle.chip.specs.Part.{selects, marked, enabled, partial}
-use Rattle.chip.specs.Stop.{cycling, effect_moved}
-use Rattle.chip.specs.Transfer.{moved, quiet, at_phase, empty_at, fall_in, slave_taken, addressed, address_taken, array_data, register_data, byte_begun, next_byte, byte_ended, drop_note}
+use Rattle.chip.specs.Stop.{Change, cycling, effect_moved}
+use Rattle.chip.specs.Transfer.{Moved, moved, quiet, at_phase, empty_at, fall_in, slave_taken, addressed, address_taken, array_data, register_data, byte_begun, next_byte, byte_ended, drop_note}
 use Rattle.chip.specs.View.{pin_high, mute, is_stop, stops, choices_of, byte_written, Stopped, Writable}
 use Rattle.chip.specs.declared.chip.Chip.{Chip}
-use Rattle.chip.specs.declared.chip.Effect.TheVariants.{Change}
-use Rattle.chip.specs.declared.chip.Moved.{Moved}
 use Rattle.chip.specs.declared.wire.Edge.{Edge}
 use Rattle.chip.specs.declared.wire.Edge.TheVariants.{Quiet, Start, Stop, Rise, Fall}
 use Rattle.chip.specs.declared.wire.Event.{Event}

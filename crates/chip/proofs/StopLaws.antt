@@ -14,12 +14,10 @@ use Rattle.parts.specs.declared.phase.Phase.TheVariants.{Standby, Slave, First, 
 use Rattle.parts.proofs.CondLaws.{cond_by, and_right}
 use Rattle.chip.specs.Chip.{pulls}
 use Rattle.chip.specs.Part.{marked, partial}
-use Rattle.chip.specs.Stop.{stop_effect, right_effect, array_effect, rightly}
+use Rattle.chip.specs.Stop.{Effect, Nothing, Change, Store, Spoil, stop_effect, right_effect, array_effect, rightly}
 use Rattle.chip.specs.Transfer.{drop_note}
 use Rattle.chip.specs.View.{mute, Writable}
 use Rattle.chip.specs.declared.chip.Chip.{Chip}
-use Rattle.chip.specs.declared.chip.Effect.{Effect}
-use Rattle.chip.specs.declared.chip.Effect.TheVariants.{Nothing, Change, Store, Spoil}
 
 -- a dropped load's note says nothing of a write
 pub drop_mute : (c : Chip) → mute (drop_note c) ≡ true

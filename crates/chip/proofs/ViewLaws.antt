@@ -9,9 +9,9 @@ use native.Mathlib.Omega.{arith}
 use borrow.Author.Tests.{eqb-true}
 use lib.Dec.{eqb}
 use lib.ListN.{length, get_or}
+use Rattle.parts.specs.Register.{Written}
 use Rattle.parts.specs.Load.{full_of}
 use Rattle.parts.specs.declared.register.Register.{Register}
-use Rattle.parts.specs.declared.register.Written.{Written}
 use Rattle.parts.specs.Wait.{every_place, waits}
 use Rattle.parts.specs.declared.wait.Wait.{Wait}
 use Rattle.parts.proofs.CondLaws.{cond_false}

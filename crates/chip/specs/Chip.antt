@@ -12,8 +12,9 @@
 -- | `cut_register`, `cut_array` | the register and the array where a cycle ends, or is cut off, with these choices |
 -- | `power_up choices` | after a power-up with these choices |
 -- | `new_chip`, `standard_chip` | new of a part and a select; the standard one |
--- | `made` | what a new chip answers |
-use Rattle.std.specs.Prelude.{ℕ, Bool, true, false, not, cond, ◌&&◌, List, leb}
+-- | `Made`, `made` | what a new chip answers |
+-- | `made_as` | what a new chip, or its refusal, stands for |
+use Rattle.std.specs.Prelude.{ℕ, Bool, true, false, not, cond, ◌&&◌, List, leb, Result, Ok, Err}
 use Rattle.parts.specs.Load.{no_load}
 use Rattle.parts.specs.Phase.{phase_fits, phase_pulls}
 use Rattle.parts.specs.Wait.{no_wait, target_fits, end_array, locks_taken}
@@ -23,7 +24,8 @@ use Rattle.parts.specs.declared.phase.Phase.TheVariants.{Standby}
 use Rattle.parts.specs.declared.register.Register.{Register}
 use Rattle.parts.specs.declared.wait.Wait.{Wait}
 use Rattle.chip.specs.declared.chip.Chip.{Chip}
-use Rattle.chip.specs.declared.chip.Made.{Made}
+use Rattle.refusals.specs.Refusals.{number_of}
+use Rattle.refusals.specs.declared.Refusal.{Refusal}
 
 -- C3, C4, C7, C9: what a transfer changes
 abbrev pub with_transfer : Chip → Phase → ℕ → Bool → Load → Chip
@@ -151,7 +153,17 @@ new_chip part select = at_power_up part select false 0 0xff
 abbrev pub standard_chip : Chip
 standard_chip = new_chip 1 0
 
+-- O1: the number of the refusal, or 0, and a chip
+pub record Made : Type 0 where
+  pub refusal : ℕ
+  pub chip : Chip
+
 -- F3, O1: for a part above 2 or a select above 7 refusal 3, with the standard chip
 unfoldable pub made : ℕ → ℕ → Made
 made part select =
     cond (leb part 2 && leb select 7) (record { refusal = 0; chip = new_chip part select }) (record { refusal = 3; chip = standard_chip })
+
+-- F3: a refusal stands for the standard chip, which C is given
+abbrev pub made_as : Result Chip Refusal → Made
+made_as (Ok chip) = record { refusal = 0; chip = chip }
+made_as (Err refusal) = record { refusal = number_of refusal; chip = standard_chip }

@@ -11,18 +11,22 @@
 -- | `program_done` | after a program-done |
 -- | `next`, `next_array` | the chip with its note, and the array, after an event |
 -- | `refusal` | 1, 2 or none |
+-- | `Answer` | what one event answers |
 -- | `answered`, `refused` | an answer, and one that refuses |
+-- | `answer_as told c` | what an event answers that told this, or was refused, and left the chip c |
 -- | `event_answer`, `event_array` | what one event answers, and the array at its exit |
-use Rattle.std.specs.Prelude.{ℕ, Bool, true, false, cond, List, eqb, length}
+use Rattle.std.specs.Prelude.{ℕ, Bool, true, false, cond, List, eqb, length, Result, Ok, Err}
+use Rattle.refusals.specs.Refusals.{number_of}
+use Rattle.refusals.specs.declared.Refusal.{Refusal}
+use Rattle.parts.specs.Note.{note_or_0}
 use Rattle.parts.specs.Phase.{risen}
 use Rattle.parts.specs.Wait.{every_place, no_wait}
 use Rattle.chip.specs.Chip.{with_cycle, with_levels, chip_fits, pulls, cut_register, cut_array, power_up}
 use Rattle.chip.specs.Stop.{stop_effect, effect_moved}
-use Rattle.chip.specs.Transfer.{moved, quiet, at_phase, started, fell}
+use Rattle.chip.specs.Transfer.{Moved, moved, quiet, at_phase, started, fell}
 use Rattle.chip.specs.Wire.{line_of, edge_of}
-use Rattle.chip.specs.declared.event.Answer.{Answer}
 use Rattle.chip.specs.declared.chip.Chip.{Chip}
-use Rattle.chip.specs.declared.chip.Moved.{Moved}
+use Rattle.chip.specs.declared.event.Answer.{Answer as Told}
 use Rattle.chip.specs.declared.wire.Edge.{Edge}
 use Rattle.chip.specs.declared.wire.Edge.TheVariants.{Quiet, Start, Stop, Rise, Fall}
 use Rattle.chip.specs.declared.wire.Event.{Event}
@@ -79,6 +83,13 @@ next_array (PowerUp choices) c xs = cut_array choices c xs
 unfoldable pub refusal : Chip → List ℕ → ℕ
 refusal c xs = cond (eqb (length xs) 16384) (cond (chip_fits c) 0 2) 1
 
+-- O2: the number of the refusal, or 0, the next chip, the line and the note
+pub record Answer : Type 0 where
+  pub refusal : ℕ
+  pub chip : Chip
+  pub line : Bool
+  pub note : ℕ
+
 -- the answer to an event that is taken
 abbrev pub answered : ℕ → Moved → Answer
 answered number m = record { refusal = number; chip = m.chip; line = m.chip.line; note = m.note }
@@ -86,6 +97,11 @@ answered number m = record { refusal = number; chip = m.chip; line = m.chip.line
 -- O9: the chip as given, the line high, note 0
 abbrev pub refused : ℕ → Chip → Answer
 refused number c = record { refusal = number; chip = c; line = true; note = 0 }
+
+-- O9: a refusal stands for the chip as it was left, the line high and note 0
+abbrev pub answer_as : Result Told Refusal → Chip → Answer
+answer_as (Ok told) c = record { refusal = 0; chip = c; line = told.line; note = note_or_0 told.note }
+answer_as (Err refusal) c = refused (number_of refusal) c
 
 -- refused or taken
 unfoldable pub event_answer : Event → Chip → List ℕ → Answer

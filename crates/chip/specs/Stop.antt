@@ -2,6 +2,7 @@
 --
 -- | Name | Meaning |
 -- |---|---|
+-- | `Effect` | all that a stop can do to the register, and all that it can let wait |
 -- | `rightly` | a stop in this phase is rightly placed |
 -- | `array_effect` | the ordered rules for an array load |
 -- | `right_effect` | what a rightly placed stop does |
@@ -14,7 +15,7 @@
 use Rattle.std.specs.Prelude.{ℕ, ◌/◌, Bool, true, false, cond, eqb, get_or}
 use Rattle.parts.specs.Load.{no_load, full_of}
 use Rattle.parts.specs.Locks.{locked}
-use Rattle.parts.specs.Register.{written, with_rpel}
+use Rattle.parts.specs.Register.{Written, written, with_rpel}
 use Rattle.parts.specs.Sector.{sector_start}
 use Rattle.parts.specs.Wait.{alone, wait_for, waits}
 use Rattle.parts.specs.declared.load.Load.{Load}
@@ -25,11 +26,15 @@ use Rattle.parts.specs.declared.phase.Phase.{Phase}
 use Rattle.parts.specs.declared.phase.Phase.TheVariants.{Standby, Slave, First, Second, Data, AckWrite, AckRead, AckFirst, AckByte, Sending, Waiting, Next}
 use Rattle.chip.specs.Chip.{with_transfer, with_cycle}
 use Rattle.chip.specs.Part.{marked, partial}
-use Rattle.chip.specs.Transfer.{moved, empty_at, drop_note}
+use Rattle.chip.specs.Transfer.{Moved, moved, empty_at, drop_note}
 use Rattle.chip.specs.declared.chip.Chip.{Chip}
-use Rattle.chip.specs.declared.chip.Effect.{Effect}
-use Rattle.chip.specs.declared.chip.Effect.TheVariants.{Nothing, Change, Store, Spoil}
-use Rattle.chip.specs.declared.chip.Moved.{Moved}
+
+-- S5-S9, S12: nothing with this note; a register byte that was taken or not; a load waits; the spoil byte waits
+pub data Effect : Type 0 where
+  Nothing : ℕ → Effect
+  Change : Written → Effect
+  Store : Effect
+  Spoil : Effect
 
 -- S3: the clock rose once after the last acknowledge: one bit of a data byte has come, whatever the bit (reading)
 unfoldable pub rightly : Phase → Bool

@@ -2,6 +2,7 @@
 --
 -- | Name | Meaning |
 -- |---|---|
+-- | `Moved` | the next chip, and the note of what made it |
 -- | `moved c note`, `quiet c` | the next chip with its note; with note 0 |
 -- | `at_phase`, `empty_at` | the chip in another phase, alone or with its load dropped |
 -- | `drop_note` | note 7 where a load of a byte or more is dropped |
@@ -20,7 +21,11 @@ use Rattle.parts.specs.declared.phase.Phase.TheVariants.{Standby, Slave, First, 
 use Rattle.chip.specs.Chip.{with_transfer}
 use Rattle.chip.specs.Part.{selects, marked, enabled}
 use Rattle.chip.specs.declared.chip.Chip.{Chip}
-use Rattle.chip.specs.declared.chip.Moved.{Moved}
+
+-- E2: the next chip, and the note of what made it
+pub record Moved : Type 0 where
+  pub chip : Chip
+  pub note : ℕ
 
 -- the next chip and its note
 abbrev pub moved : Chip → ℕ → Moved

@@ -28,14 +28,13 @@ use Rattle.std.specs.Prelude.{ℕ, ◌*◌, ◌/◌, ◌%◌, ◌≤◌, Bool, t
 use Rattle.parts.specs.Load.{no_load, full_of}
 use Rattle.parts.specs.Locks.{locked}
 use Rattle.parts.specs.Phase.{phase_pulls}
-use Rattle.parts.specs.Register.{has_register, written, with_pel, with_rpel}
+use Rattle.parts.specs.Register.{Written, has_register, written, with_pel, with_rpel}
 use Rattle.parts.specs.Rows.{every}
 use Rattle.parts.specs.Sector.{sector_start}
 use Rattle.parts.specs.Wait.{no_wait, chosen, every_place, no_place, wait_for, waits}
 use Rattle.parts.specs.declared.load.Load.{Load}
 use Rattle.parts.specs.declared.phase.Phase.TheVariants.{Slave}
 use Rattle.parts.specs.declared.register.Register.{Register}
-use Rattle.parts.specs.declared.register.Written.{Written}
 use Rattle.parts.specs.declared.wait.Target.{Target}
 use Rattle.parts.specs.declared.wait.Target.TheVariants.{None, Sector, Locks}
 use Rattle.parts.specs.declared.wait.Wait.{Wait}

@@ -1,13 +1,16 @@
 // The chip: what it carries, how it is made, and whether it pulls. Every method answers for every chip, in range or not.
 ghost use Rattle.std.specs.Prelude.{◌≡◌};
-ghost use Rattle.chip.specs.Chip.{chip_fits, pulls, with_spoil, at_power_up, standard_chip, made};
+ghost use Rattle.parts.specs.Note.{note_or_0};
+ghost use Rattle.chip.specs.Chip.{chip_fits, pulls, with_spoil, at_power_up, standard_chip, made, made_as};
 ghost use Rattle.chip.specs.Part.{marked, enabled};
-ghost use Rattle.chip.specs.Transfer.{at_phase, empty_at, drop_note, quiet};
+ghost use Rattle.chip.specs.Transfer.{at_phase, empty_at, drop_note};
 
 use parts::load::Load;
+use parts::note::Note;
 use parts::phase::Phase;
-use parts::register::{Register, Written, has_register};
+use parts::register::{Register, has_register};
 use parts::wait::Wait;
+use refusals::Refusal;
 
 #[derive(Clone, Copy)]
 pub struct Chip {
@@ -37,29 +40,6 @@ pub struct Chip {
     pub wait: Wait,
 }
 
-// What a new chip answers.
-#[derive(Clone, Copy)]
-pub struct Made {
-    pub refusal: u8,
-    pub chip: Chip,
-}
-
-// The next chip, and the note of what made it.
-#[derive(Clone, Copy)]
-pub struct Moved {
-    pub chip: Chip,
-    pub note: u8,
-}
-
-// All that a stop can do to the register, and all that it can let wait.
-#[derive(Clone, Copy)]
-pub enum Effect {
-    Nothing { note: u8 },
-    Change(Written),
-    Store,
-    Spoil,
-}
-
 impl Chip {
     // the part that stores a load of any length
     pub const X24128: u8 = 0;
@@ -86,14 +66,12 @@ impl Chip {
     pub(crate) fn at_power_up(part: u8, select: u8, ppen: bool, bl: u8, spoil: u8) -> Chip
         ensures { result ≡ at_power_up part select ppen bl spoil }
     {
-        let load = Load::none();
-        let wait = Wait::none();
         Chip {
-            part: part,
-            select: select,
+            part,
+            select,
             register: Register {
-                ppen: ppen,
-                bl: bl,
+                ppen,
+                bl,
                 rpel: false,
                 pel: false,
             },
@@ -103,9 +81,9 @@ impl Chip {
             scl: false,
             line: true,
             phase: Phase::Standby,
-            load: load,
-            spoil: spoil,
-            wait: wait,
+            load: Load::none(),
+            spoil,
+            wait: Wait::none(),
         }
     }
 
@@ -116,28 +94,15 @@ impl Chip {
         Chip::at_power_up(Chip::X24F128, 0, false, 0, Chip::SPOIL)
     }
 
-    // What is answered for a part or a select that does not exist.
-    fn not_made() -> Made
-        ensures { (result.refusal ≡ 3) × (result.chip ≡ standard_chip) }
-    {
-        Made {
-            refusal: 3,
-            chip: Chip::standard(),
-        }
-    }
-
-    // A new chip: refusal 3, with the standard chip, for a part above 2 or a select above 7.
+    // A new chip; refused for a part above 2 or a select above 7.
     #[tactic(auto, unfolding(crate::specs::Chip::made))]
-    pub fn new(part: u8, select: u8) -> Made
-        ensures { result ≡ made part select }
+    pub fn new(part: u8, select: u8) -> Result<Chip, Refusal>
+        ensures { made_as result ≡ made part select }
     {
         if (part <= 2) & (select <= 7) {
-            return Made {
-                refusal: 0,
-                chip: Chip::at_power_up(part, select, false, 0, Chip::SPOIL),
-            };
+            return Ok(Chip::at_power_up(part, select, false, 0, Chip::SPOIL));
         }
-        Chip::not_made()
+        Err(Refusal::NoSuchChip)
     }
 
     // The chip with another spoil byte.
@@ -152,87 +117,55 @@ impl Chip {
 
     // Whether each number that the chip carries is in its range.
     #[tactic(auto, unfolding(crate::specs::Chip::chip_fits))]
-    pub(crate) fn fits(self) -> bool
-        ensures { result ≡ chip_fits self }
+    pub(crate) fn fits(&self) -> bool
+        ensures { result ≡ chip_fits self.now }
     {
-        let phase = self.phase;
-        let load = self.load;
-        let wait = self.wait;
-        let target = wait.target;
-        let fit = phase.fits();
-        let held = target.fits();
         (self.part <= 2)
             & (self.select <= 7)
             & (self.register.bl <= 3)
             & (self.counter <= 0x3fff)
-            & fit
-            & (load.count <= 33)
-            & held
+            & self.phase.fits()
+            & (self.load.count <= 33)
+            & self.wait.target.fits()
     }
 
     // Whether the chip pulls the line.
     #[tactic(auto, unfolding(crate::specs::Chip::pulls))]
-    pub(crate) fn pulls(self) -> bool
-        ensures { result ≡ pulls self }
+    pub(crate) fn pulls(&self) -> bool
+        ensures { result ≡ pulls self.now }
     {
-        let phase = self.phase;
-        let pulled = phase.pulls();
-        !self.busy & pulled
+        !self.busy && self.phase.pulls()
     }
 
     // Whether the register is selected, and not the array.
-    pub(crate) fn marked(self) -> bool
-        ensures { result ≡ marked self.part self.mark }
+    pub(crate) fn marked(&self) -> bool
+        ensures { result ≡ marked self.now.part self.now.mark }
     {
-        let has = has_register(self.part);
-        self.mark & has
+        self.mark & has_register(self.part)
     }
 
     // Whether data for the array is taken.
-    pub(crate) fn enabled(self) -> bool
-        ensures { result ≡ enabled self.part self.register.pel }
+    pub(crate) fn enabled(&self) -> bool
+        ensures { result ≡ enabled self.now.part self.now.register.pel }
     {
-        let has = has_register(self.part);
-        self.register.pel | !has
+        self.register.pel | !has_register(self.part)
     }
 
-    // Note 7 where a load is dropped, else 0.
-    pub(crate) fn drop_note(self) -> u8
-        ensures { result ≡ drop_note self }
+    // Moves to another phase.
+    pub(crate) fn go(&mut self, phase: Phase)
+        ensures { self.new ≡ at_phase self.old phase }
     {
-        let load = self.load;
-        if load.count == 0 { 0 } else { 7 }
+        self.phase = phase;
     }
 
-    // The chip in another phase.
-    pub(crate) fn at(self, phase: Phase) -> Chip
-        ensures { result ≡ at_phase self phase }
+    // Moves to another phase and drops the load, which is noted where it had a byte.
+    pub(crate) fn drop_load(&mut self, phase: Phase) -> Option<Note>
+        ensures chip { self.new ≡ empty_at self.old phase }
+        ensures note { note_or_0 result ≡ drop_note self.old }
     {
-        Chip {
-            phase: phase,
-            ..self
-        }
-    }
-
-    // The chip in another phase with its load dropped.
-    pub(crate) fn empty_at(self, phase: Phase) -> Chip
-        ensures { result ≡ empty_at self phase }
-    {
-        let load = Load::none();
-        Chip {
-            phase: phase,
-            load: load,
-            ..self
-        }
-    }
-}
-
-// The chip with note 0.
-pub(crate) fn quietly(chip: Chip) -> Moved
-    ensures { result ≡ quiet chip }
-{
-    Moved {
-        chip: chip,
-        note: 0,
+        let dropped = self.load.count != 0;
+        self.phase = phase;
+        self.load = Load::none();
+        if dropped { Some(Note::Dropped) } else { None }
     }
 }

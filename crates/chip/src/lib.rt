@@ -2,6 +2,7 @@
 #![tactic(auto)]
 
 pub mod chip;
+mod cycle;
 pub mod event;
 pub mod stop;
 pub mod transfer;

@@ -1,14 +1,16 @@
 // What a stop does: nothing, a register byte written, or a cycle begun in which a load, or the spoil byte in its place, waits for the sector.
 ghost use Rattle.std.specs.Prelude.{◌≡◌};
+ghost use Rattle.parts.specs.Note.{note_or_0, note_number};
+ghost use Rattle.parts.specs.Register.{written};
 ghost use Rattle.chip.specs.Part.{partial};
-ghost use Rattle.chip.specs.Stop.{rightly, array_effect, right_effect, stop_effect, cycling, effect_moved};
-ghost use Rattle.chip.specs.declared.chip.Effect.TheVariants.{Change};
+ghost use Rattle.chip.specs.Stop.{rightly, array_effect, right_effect, stop_effect, cycling, effect_moved, Change};
+ghost use Rattle.chip.specs.Transfer.{moved};
 
-use crate::chip::{Chip, Effect, Moved};
+use crate::chip::Chip;
 use parts::load::Load;
 use parts::locks::is_locked;
+use parts::note::Note;
 use parts::phase::Phase;
-use parts::register::{Register, Written};
 use parts::sector::sector_start;
 use parts::wait::Wait;
 
@@ -17,155 +19,87 @@ use parts::wait::Wait;
 fn rightly_placed(phase: Phase) -> bool
     ensures { result ≡ rightly phase }
 {
-    match phase {
-        Phase::Standby => false,
-        Phase::Slave { bits: _, got: _ } => false,
-        Phase::First { bits: _, got: _ } => false,
-        Phase::Second {
-            high: _,
-            bits: _,
-            got: _,
-        } => false,
-        Phase::Data { bits, got: _ } => bits == 1,
-        Phase::AckWrite => false,
-        Phase::AckRead => false,
-        Phase::AckFirst { high: _ } => false,
-        Phase::AckByte => false,
-        Phase::Sending { bit: _, byte: _ } => false,
-        Phase::Waiting => false,
-        Phase::Next => false,
-    }
+    matches!(phase, Phase::Data { bits: 1, .. })
 }
 
 impl Chip {
     // Whether a load of this many bytes is one that the part does not take.
-    fn partial(self) -> bool
-        ensures { result ≡ partial self.part self.load.count }
+    fn partial(&self) -> bool
+        ensures { result ≡ partial self.now.part self.now.load.count }
     {
-        let load = self.load;
-        !(load.count == 32) & !(self.part == 0)
+        self.load.count != 32 && self.part != Chip::X24128
+    }
+
+    // Begins a cycle of the array: a load waits for the counter's sector, RPEL is cleared, and the chip rests busy.
+    fn cycle(&mut self, load: &Load, note: Note) -> Option<Note>
+        ensures { moved self.new (note_or_0 result) ≡ cycling self.old load.now (note_number note) }
+    {
+        self.wait = Wait::of(self.counter / 32, load);
+        self.register.rpel = false;
+        self.busy = true;
+        self.phase = Phase::Standby;
+        self.load = Load::none();
+        Some(note)
     }
 
     // What an array load does at a rightly placed stop.
-    #[tactic(auto, unfolding(crate::specs::Stop::array_effect))]
-    fn array_effect(self, pin: bool) -> Effect
-        ensures { result ≡ array_effect self pin }
+    #[tactic(auto, unfolding(crate::specs::Stop::array_effect, crate::specs::Stop::effect_moved))]
+    fn stop_array(&mut self, pin: bool) -> Option<Note>
+        ensures { moved self.new (note_or_0 result) ≡ effect_moved (array_effect self.old pin) self.old }
     {
         let start = sector_start(self.counter);
         let shut = is_locked(self.part, self.register.bl, pin, start);
         let short = self.partial();
         if shut {
-            return Effect::Nothing { note: 4 };
+            self.drop_load(Phase::Standby);
+            return Some(Note::Locked);
         }
         if short {
-            return Effect::Spoil;
+            return self.cycle(&Load::full(self.spoil), Note::Spoil);
         }
-        Effect::Store
+        let load = self.load;
+        self.cycle(&load, Note::Store)
+    }
+
+    // What a register byte does at a rightly placed stop: the counter and the mark are cleared, and what waits by it turns the chip busy.
+    #[tactic(auto, unfolding(crate::specs::Stop::effect_moved))]
+    fn stop_register(&mut self, byte: u8, pin: bool) -> Option<Note>
+        ensures { moved self.new (note_or_0 result) ≡ effect_moved (Change (written self.old.register byte pin)) self.old }
+    {
+        let (target, note) = self.register.write(byte, pin);
+        self.counter = 0;
+        self.mark = false;
+        self.phase = Phase::Standby;
+        self.load = Load::none();
+        self.busy = target.waits();
+        if self.busy {
+            self.wait = Wait::alone(target);
+        }
+        Some(note)
     }
 
     // What a rightly placed stop does.
-    #[tactic(auto, unfolding(crate::specs::Stop::right_effect))]
-    fn right_effect(self, pin: bool) -> Effect
-        ensures { result ≡ right_effect self pin }
+    #[tactic(auto, unfolding(crate::specs::Stop::right_effect, crate::specs::Stop::effect_moved))]
+    fn stop_rightly(&mut self, pin: bool) -> Option<Note>
+        ensures { moved self.new (note_or_0 result) ≡ effect_moved (right_effect self.old pin) self.old }
     {
-        let load = self.load;
-        if load.count == 0 {
-            return Effect::Nothing { note: 0 };
+        if self.load.count == 0 {
+            return self.drop_load(Phase::Standby);
         }
         if self.marked() {
-            let register = self.register;
-            let byte = load.bytes[0];
-            return Effect::Change(register.written(byte, pin));
+            return self.stop_register(self.load.bytes[0], pin);
         }
-        self.array_effect(pin)
-    }
-
-    // What a stop does: rightly placed, or misplaced.
-    #[tactic(auto, unfolding(crate::specs::Stop::stop_effect))]
-    fn stop_effect(self, pin: bool) -> Effect
-        ensures { result ≡ stop_effect self pin }
-    {
-        let phase = self.phase;
-        if rightly_placed(phase) {
-            return self.right_effect(pin);
-        }
-        let note = self.drop_note();
-        Effect::Nothing { note: note }
-    }
-
-    // A cycle of the array: a load waits for the counter's sector, RPEL is cleared, and the chip rests busy.
-    fn cycle(self, load: Load, note: u8) -> Moved
-        ensures { result ≡ cycling self load note }
-    {
-        let wait = Wait::of(self.counter / 32, load);
-        let none = Load::none();
-        let register = Register {
-            rpel: false,
-            ..self.register
-        };
-        Moved {
-            chip: Chip {
-                register: register,
-                busy: true,
-                phase: Phase::Standby,
-                load: none,
-                wait: wait,
-                ..self
-            },
-            note: note,
-        }
-    }
-
-    // A register byte was taken or not: the counter and the mark are cleared, and what waits by it turns the chip busy.
-    #[tactic(auto, unfolding(crate::specs::Stop::effect_moved))]
-    fn change(self, written: Written) -> Moved
-        ensures { result ≡ effect_moved (Change written) self }
-    {
-        let none = Load::none();
-        let register = written.register;
-        let target = written.target;
-        let next = Chip {
-            register: register,
-            counter: 0,
-            mark: false,
-            phase: Phase::Standby,
-            load: none,
-            ..self
-        };
-        if target.waits() {
-            let wait = Wait::alone(target);
-            return Moved {
-                chip: Chip {
-                    busy: true,
-                    wait: wait,
-                    ..next
-                },
-                note: written.note,
-            };
-        }
-        Moved {
-            chip: Chip {
-                busy: false,
-                ..next
-            },
-            note: written.note,
-        }
+        self.stop_array(pin)
     }
 
     // A stop: standby, the load empty, and what the stop does to the register and lets wait. It writes no byte of the array.
-    #[tactic(auto, unfolding(crate::specs::Stop::effect_moved))]
-    pub(crate) fn stop(self, pin: bool) -> Moved
-        ensures { result ≡ effect_moved (stop_effect self pin) self }
+    #[tactic(auto, unfolding(crate::specs::Stop::stop_effect, crate::specs::Stop::effect_moved))]
+    pub(crate) fn stop(&mut self, pin: bool) -> Option<Note>
+        ensures { moved self.new (note_or_0 result) ≡ effect_moved (stop_effect self.old pin) self.old }
     {
-        let effect = self.stop_effect(pin);
-        match effect {
-            Effect::Nothing { note } => Moved {
-                chip: self.empty_at(Phase::Standby),
-                note: note,
-            },
-            Effect::Change(written) => self.change(written),
-            Effect::Store => self.cycle(self.load, 1),
-            Effect::Spoil => self.cycle(Load::full(self.spoil), 5),
+        if rightly_placed(self.phase) {
+            return self.stop_rightly(pin);
         }
+        self.drop_load(Phase::Standby)
     }
 }

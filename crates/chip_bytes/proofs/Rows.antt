@@ -1,16 +1,15 @@
--- Rows of bytes: their length, their bytes, and the turns of the loop that tests whether all of them are flags. Assumes nothing.
-use Prim.Native.Nat.{ℕ, zero, suc, ◌+◌, ◌<◌, ◌≤◌}
-use mathlib.Core.Bool.{Bool, ◌&&◌, and_assoc, and-true}
+-- Rows of bytes: their length, their bytes, what part of the bytes they are, and the test of every one. Assumes nothing.
+use Prim.Native.Nat.{ℕ, zero, suc, ◌+◌, ◌-◌, ◌<◌, ◌≤◌}
+use mathlib.Core.Bool.{Bool, ◌&&◌}
 use mathlib.Core.Path.{◌≡◌, refl, sym, ap, ◌∙◌}
-use mathlib.Core.List.{List}
+use mathlib.Core.List.{List, [], ◌∷◌, map}
 use native.Mathlib.Nat.{add-zero}
-use native.Mathlib.Numerals.{add-one}
 use native.Mathlib.Omega.{arith}
-use lib.Dec.{leb}
-use lib.ListN.{length, get_or, take, drop, length-drop, drop_of_length-le}
-use lib.Seq.{length-take-le, drop-cons, get_or-take, get_or-drop, ext_get_or}
+use lib.ListN.{length, get_or, take, drop, length-drop, length-map, get_or-map}
+use lib.Seq.{length-take-le, get_or-take, get_or-drop, ext_get_or}
+use Rattle.std.specs.List.{list_all}
 use Rattle.parts.specs.Rows.{every}
-use Rattle.chip_bytes.specs.State.{row, all_flags}
+use Rattle.chip_bytes.specs.State.{row}
 
 -- a row has its length, and its k-th byte stands k further on
 pub length_row : (n at : ℕ) (b : List ℕ) → length (row n at b) ≡ n
@@ -35,20 +34,23 @@ row_part n at b h =
     let inside : k < n = rw (length_row n at b) at below in
     sym (row_byte n at b k inside) ∙ sym (get_or-drop at b k 0) ∙ sym (get_or-take n (drop at b) k 0 inside))
 
--- one byte more is tested, and the last was
-pub flags_more :
-    (r : List ℕ) (k x : ℕ) (fit : Bool)
-    → k < length r
-    → x ≡ get_or r k 0
-    → (fit && all_flags (drop k r)) ≡ all_flags r
-    → ((fit && leb x 1) && all_flags (drop (k + 1) r)) ≡ all_flags r
-unfolding every
-flags_more r k x fit h e before =
-    and_assoc fit (leb x 1) (all_flags (drop (k + 1) r))
-    ∙ ap (λ (t : Bool). fit && t) (rw (add-one, e) (ap all_flags (sym (drop-cons r k 0 h))))
-    ∙ before
+-- so it is the part that is lent from an offset to n further on
+pub part_row : (n at : ℕ) (b : List ℕ) → at + n ≤ length b → take (at + n - at) (drop at b) ≡ row n at b
+part_row n at b h =
+    let count : at + n - at ≡ n = omega arith in
+    ap (λ (k : ℕ). take k (drop at b)) count ∙ sym (row_part n at b h)
 
-pub flags_end : (r : List ℕ) (k : ℕ) (fit : Bool) → length r ≤ k → (fit && all_flags (drop k r)) ≡ all_flags r → fit ≡ all_flags r
+-- the test of every one is std's
+pub every_list_all : {A : Type 0} (test : A → Bool) (row : List A) → list_all test row ≡ every test row
 unfolding every
-flags_end r k fit h before =
-    sym (and-true fit) ∙ ap (λ (l : List ℕ). fit && all_flags l) (sym (drop_of_length-le r h)) ∙ before
+every_list_all test [] = refl
+every_list_all test (x ∷ row) = ap (λ (rest : Bool). test x && rest) (every_list_all test row)
+
+-- a row that has at each place what h makes of another's is the other, mapped
+pub mapped :
+    {A B : Type 0} (h : A → B) (xs : List A) (ys : List B) (d : A)
+    → length ys ≡ length xs
+    → ((k : ℕ) → k < length xs → get_or ys k (h d) ≡ h (get_or xs k d))
+    → ys ≡ map h xs
+mapped h xs ys d long each =
+    ext_get_or (h d) ys (map h xs) (long ∙ sym (length-map xs h)) (λ k below. each k (rw (← long) below) ∙ sym (get_or-map h xs k d))

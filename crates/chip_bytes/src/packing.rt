@@ -12,10 +12,10 @@ use parts::wait::{Target, Wait};
 pub fn flag_byte(on: bool) -> u8
     ensures { result ≡ flag_byte on }
 {
-    if on { 1 } else { 0 }
+    u8::from(on)
 }
 
-// The four bytes of a phase: its number, bits, byte and high, where 0 stands for what it does not carry.
+// The four bytes of a phase: its number, bits, byte and high, where 0 stands for what it does not carry. The numbers are those of the C interface.
 #[tactic(auto, unfolding(crate::specs::State::phase_bytes))]
 fn phase_bytes(phase: Phase) -> [u8; 4]
     ensures { result ≡ phase_bytes phase }
@@ -37,26 +37,29 @@ fn phase_bytes(phase: Phase) -> [u8; 4]
 }
 
 // The five bytes of what waits: its kind, the two of its sector's number, its PPEN and BL, where 0 stands for what it does not carry.
+// The kinds are numbers of the C interface.
 #[tactic(auto, unfolding(crate::specs::State::target_bytes))]
 fn target_bytes(target: Target) -> [u8; 5]
     ensures { result ≡ target_bytes target }
 {
     match target {
         Target::None => [0, 0, 0, 0, 0],
-        Target::Sector { number } => [1, (number / 256) as u8, (number % 256) as u8, 0, 0],
+        Target::Sector { number } => {
+            let [high, low] = number.to_be_bytes();
+            [1, high, low, 0, 0]
+        }
         Target::Locks { ppen, bl } => [2, 0, 0, flag_byte(ppen), bl],
     }
 }
 
 // The bytes before the load's places.
 #[tactic(auto, unfolding(crate::specs::State::head_bytes))]
-fn head_bytes(chip: Chip) -> [u8; at::PLACES]
-    ensures { result ≡ head_bytes chip }
+fn head_bytes(chip: &Chip) -> [u8; at::PLACES]
+    ensures { result ≡ head_bytes chip.now }
 {
     let register = chip.register;
-    let load = chip.load;
-    let phase = chip.phase;
-    let four = phase_bytes(phase);
+    let [counter_high, counter_low] = chip.counter.to_be_bytes();
+    let [number, bits, byte, high] = phase_bytes(chip.phase);
     [
         chip.part,
         chip.select,
@@ -64,76 +67,56 @@ fn head_bytes(chip: Chip) -> [u8; at::PLACES]
         register.bl,
         flag_byte(register.rpel),
         flag_byte(register.pel),
-        (chip.counter / 256) as u8,
-        (chip.counter % 256) as u8,
+        counter_high,
+        counter_low,
         flag_byte(chip.mark),
         flag_byte(chip.busy),
         flag_byte(chip.scl),
         flag_byte(chip.line),
-        four[0],
-        four[1],
-        four[2],
-        four[3],
-        load.count,
+        number,
+        bits,
+        byte,
+        high,
+        chip.load.count,
     ]
 }
 
 // A byte for each flag.
-fn flag_bytes(flags: [bool; Chip::SECTOR]) -> [u8; Chip::SECTOR]
-    ensures { result ≡ map flag_byte flags }
+fn flag_bytes(flags: &[bool; Chip::SECTOR]) -> [u8; Chip::SECTOR]
+    ensures { result ≡ map flag_byte flags.now }
 {
     let mut bytes = [0; Chip::SECTOR];
-    let mut k: usize = 0;
-    while k < Chip::SECTOR {
-        bytes[k] = flag_byte(flags[k]);
-        k = k + 1;
+    for (place, on) in flags.iter().enumerate() {
+        bytes[place] = flag_byte(*on);
     }
     bytes
 }
 
-// Copies a row of bytes into those of a chip, from an offset on.
-fn copy_at(state: &mut [u8], offset: usize, row: &[u8])
-    requires { offset + length row.now ≤ length state.old }
-    ensures { state.new ≡ take offset state.old ++ row.now ++ drop (offset + length row.now) state.old }
+// Copies what waits into the bytes of a chip, which end with it.
+fn copy_wait(state: &mut [u8; at::SIZE], wait: &Wait)
+    ensures { state.new ≡ take at.wait state.old ++ wait_bytes wait.now }
 {
-    let mut i: usize = 0;
-    while i < row.len() {
-        state[offset + i] = row[i];
-        i = i + 1;
-    }
+    state[at::WAIT..at::WAIT_PLACES].copy_from_slice(&target_bytes(wait.target));
+    state[at::WAIT_PLACES..at::WAIT_BYTES].copy_from_slice(&flag_bytes(&wait.places));
+    state[at::WAIT_BYTES..].copy_from_slice(&wait.bytes);
 }
 
-// Copies what waits into the bytes of a chip, which end with it.
-fn copy_wait(state: &mut [u8], wait: Wait)
-    requires { length state.old ≡ at.size }
-    ensures { state.new ≡ take at.wait state.old ++ wait_bytes wait }
+// Copies each field of a chip into its place.
+fn copy_chip(state: &mut [u8; at::SIZE], chip: &Chip)
+    ensures { state.new ≡ bytes_of chip.now }
 {
-    let target = wait.target;
-    let places = wait.places;
-    let bytes = wait.bytes;
-    let kind = target_bytes(target);
-    let taking = flag_bytes(places);
-    copy_at(state, at::WAIT, &kind);
-    copy_at(state, at::WAIT_PLACES, &taking);
-    copy_at(state, at::WAIT_BYTES, &bytes);
+    state[at::PART..at::PLACES].copy_from_slice(&head_bytes(chip));
+    state[at::PLACES..at::LOAD].copy_from_slice(&flag_bytes(&chip.load.places));
+    state[at::LOAD..at::SPOIL].copy_from_slice(&chip.load.bytes);
+    state[at::SPOIL] = chip.spoil;
+    copy_wait(state, &chip.wait);
 }
 
 // The bytes of a chip.
-pub fn pack(chip: Chip) -> [u8; at::SIZE]
-    ensures { result ≡ bytes_of chip }
+pub fn pack(chip: &Chip) -> [u8; at::SIZE]
+    ensures { result ≡ bytes_of chip.now }
 {
-    let load = chip.load;
-    let places = load.places;
-    let bytes = load.bytes;
-    let head = head_bytes(chip);
-    let loaded = flag_bytes(places);
-    let spoil = [chip.spoil];
-    let wait = chip.wait;
     let mut state = [0; at::SIZE];
-    copy_at(&mut state, at::PART, &head);
-    copy_at(&mut state, at::PLACES, &loaded);
-    copy_at(&mut state, at::LOAD, &bytes);
-    copy_at(&mut state, at::SPOIL, &spoil);
-    copy_wait(&mut state, wait);
+    copy_chip(&mut state, chip);
     state
 }

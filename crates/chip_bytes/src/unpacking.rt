@@ -10,7 +10,7 @@ use parts::phase::Phase;
 use parts::register::Register;
 use parts::wait::{Target, Wait};
 
-// The phase of a number from 0 to 11, with those of the three bytes beside it that it carries.
+// The phase of a number from 0 to 11, with those of the three bytes beside it that it carries. The numbers are those of the C interface.
 #[tactic(auto, unfolding(crate::specs::State::phase_of))]
 fn phase_of(number: u8, bits: u8, byte: u8, high: u8) -> Phase
     ensures { result ≡ phase_of number bits byte high }
@@ -35,14 +35,7 @@ fn phase_of(number: u8, bits: u8, byte: u8, high: u8) -> Phase
     }
 }
 
-// The number of its two bytes: the address counter, or the waiting sector.
-fn number_of(high: u8, low: u8) -> u16
-    ensures { result ≡ high * 256 + low }
-{
-    high as u16 * 256 + low as u16
-}
-
-// What waits by its kind from 0 to 2, with those of the four bytes beside it that it carries.
+// What waits by its kind from 0 to 2, with those of the four bytes beside it that it carries. The kinds are numbers of the C interface.
 #[tactic(auto, unfolding(crate::specs::State::target_of))]
 fn target_of(kind: u8, high: u8, low: u8, ppen: u8, bl: u8) -> Target
     ensures { result ≡ target_of kind high low ppen bl }
@@ -50,7 +43,7 @@ fn target_of(kind: u8, high: u8, low: u8, ppen: u8, bl: u8) -> Target
     match kind {
         0 => Target::None,
         1 => Target::Sector {
-            number: number_of(high, low),
+            number: u16::from_be_bytes([high, low]),
         },
         _ => Target::Locks {
             ppen: ppen == 1,
@@ -65,23 +58,18 @@ fn row_at(state: &[u8; at::SIZE], offset: usize) -> [u8; Chip::SECTOR]
     ensures { result ≡ row 32 offset state.now }
 {
     let mut bytes = [0; Chip::SECTOR];
-    let mut k: usize = 0;
-    while k < Chip::SECTOR {
-        bytes[k] = state[offset + k];
-        k = k + 1;
-    }
+    bytes.copy_from_slice(&state[offset..offset + Chip::SECTOR]);
     bytes
 }
 
-// A flag for each byte.
-fn flags_of(bytes: [u8; Chip::SECTOR]) -> [bool; Chip::SECTOR]
-    ensures { result ≡ map flag_of bytes }
+// The row of a flag for each place that stands at an offset.
+fn flags_at(state: &[u8; at::SIZE], offset: usize) -> [bool; Chip::SECTOR]
+    requires { offset + 32 ≤ size }
+    ensures { result ≡ map flag_of (row 32 offset state.now) }
 {
     let mut flags = [false; Chip::SECTOR];
-    let mut k: usize = 0;
-    while k < Chip::SECTOR {
-        flags[k] = bytes[k] == 1;
-        k = k + 1;
+    for (place, byte) in state[offset..offset + Chip::SECTOR].iter().enumerate() {
+        flags[place] = *byte == 1;
     }
     flags
 }
@@ -99,17 +87,12 @@ fn wait_of(state: &[u8; at::SIZE]) -> Wait
         state[at::WAIT_BL],
     );
     match target {
-        Target::None => Wait::alone(target),
-        Target::Sector { number: _ } => {
-            let places = flags_of(row_at(state, at::WAIT_PLACES));
-            let bytes = row_at(state, at::WAIT_BYTES);
-            Wait {
-                target: target,
-                places: places,
-                bytes: bytes,
-            }
-        }
-        Target::Locks { ppen: _, bl: _ } => Wait::alone(target),
+        Target::Sector { .. } => Wait {
+            target,
+            places: flags_at(state, at::WAIT_PLACES),
+            bytes: row_at(state, at::WAIT_BYTES),
+        },
+        Target::None | Target::Locks { .. } => Wait::alone(target),
     }
 }
 
@@ -124,10 +107,6 @@ pub fn unpack(state: &[u8; at::SIZE]) -> Chip
         state[at::BYTE],
         state[at::HIGH],
     );
-    let places = flags_of(row_at(state, at::PLACES));
-    let bytes = row_at(state, at::LOAD);
-    let wait = wait_of(state);
-    let counter = number_of(state[at::COUNTER_HIGH], state[at::COUNTER_LOW]);
     Chip {
         part: state[at::PART],
         select: state[at::SELECT],
@@ -137,55 +116,44 @@ pub fn unpack(state: &[u8; at::SIZE]) -> Chip
             rpel: state[at::RPEL] == 1,
             pel: state[at::PEL] == 1,
         },
-        counter: counter,
+        counter: u16::from_be_bytes([state[at::COUNTER_HIGH], state[at::COUNTER_LOW]]),
         mark: state[at::MARK] == 1,
         busy: state[at::BUSY] == 1,
         scl: state[at::SCL] == 1,
         line: state[at::LINE] == 1,
-        phase: phase,
+        phase,
         load: Load {
-            bytes: bytes,
-            places: places,
+            bytes: row_at(state, at::LOAD),
+            places: flags_at(state, at::PLACES),
             count: state[at::COUNT],
         },
         spoil: state[at::SPOIL],
-        wait: wait,
+        wait: wait_of(state),
     }
 }
 
 // Whether each byte is 0 or 1.
-#[tactic(auto, using(crate::proofs::Rows::flags_more, crate::proofs::Rows::flags_end))]
 fn all_flags(bytes: &[u8]) -> bool
     ensures { result ≡ all_flags bytes.now }
 {
-    let mut fit = true;
-    let mut k: usize = 0;
-    while k < bytes.len() {
-        fit = fit & (bytes[k] <= 1);
-        k = k + 1;
-    }
-    fit
+    bytes.iter().all(|byte| *byte <= 1)
 }
 
 // Whether the kind of what waits is one of the three and each flag that it carries is 0 or 1.
-#[tactic(auto, unfolding(crate::specs::State::wait_fits))]
+#[tactic(auto, using(crate::proofs::Rows::row_part), unfolding(crate::specs::State::wait_fits))]
 fn wait_fits(state: &[u8; at::SIZE]) -> bool
     ensures { result ≡ wait_fits (get_or state.now wait 0) (get_or state.now wait_ppen 0) (row 32 wait_places state.now) }
 {
-    let kind = state[at::WAIT];
-    match kind {
+    match state[at::WAIT] {
         0 => true,
-        1 => {
-            let places = row_at(state, at::WAIT_PLACES);
-            all_flags(&places)
-        }
+        1 => all_flags(&state[at::WAIT_PLACES..at::WAIT_BYTES]),
         2 => state[at::WAIT_PPEN] <= 1,
         _ => false,
     }
 }
 
 // Whether the phase is one of the twelve, each flag is 0 or 1 and what waits fits.
-#[tactic(auto, unfolding(crate::specs::State::bytes_fit))]
+#[tactic(auto, using(crate::proofs::Rows::row_part), unfolding(crate::specs::State::bytes_fit))]
 pub fn bytes_fit(state: &[u8; at::SIZE]) -> bool
     ensures { result ≡ bytes_fit state.now }
 {
@@ -198,9 +166,8 @@ pub fn bytes_fit(state: &[u8; at::SIZE]) -> bool
         state[at::SCL],
         state[at::LINE],
     ];
-    let places = row_at(state, at::PLACES);
-    let head = all_flags(&flags);
-    let load = all_flags(&places);
-    let wait = wait_fits(state);
-    (state[at::PHASE] <= 11) & (head & (load & wait))
+    (state[at::PHASE] <= 11)
+        && all_flags(&flags)
+        && all_flags(&state[at::PLACES..at::LOAD])
+        && wait_fits(state)
 }

@@ -5,10 +5,9 @@ use mathlib.Core.List.{List}
 use mathlib.Core.Path.{◌≡◌, refl, sym, ap, ◌∙◌}
 use borrow.Author.Tests.{eqb-true}
 use lib.Dec.{eqb}
-use Rattle.chip.specs.Event.{answered, refused}
+use Rattle.chip.specs.Event.{Answer, answered, refused}
 use Rattle.chip.specs.declared.chip.Chip.{Chip}
-use Rattle.chip.specs.declared.chip.Moved.{Moved}
-use Rattle.chip.specs.declared.event.Answer.{Answer}
+use Rattle.chip.specs.Transfer.{Moved}
 use Rattle.trace.specs.Trace.{unless}
 use Rattle.chip_bytes.specs.State.{bytes_of}
 

@@ -7,10 +7,9 @@ use mathlib.Core.Path.{◌≡◌, refl, sym, ap, ◌∙◌}
 use borrow.Author.Tests.{eqb-true}
 use lib.Dec.{eqb}
 use Rattle.chip.specs.Chip.{cut_array, power_up}
-use Rattle.chip.specs.Event.{next, next_array, refusal, answered, refused, event_answer, event_array}
+use Rattle.chip.specs.Event.{Answer, next, next_array, refusal, answered, refused, event_answer, event_array}
 use Rattle.chip.specs.Run.{world}
 use Rattle.chip.specs.declared.chip.Chip.{Chip}
-use Rattle.chip.specs.declared.event.Answer.{Answer}
 use Rattle.chip.specs.declared.wire.Event.TheVariants.{PowerUp}
 use Rattle.trace.specs.Bytes.{event_of, is_event, answer_byte}
 use Rattle.trace.specs.Trace.{unless}

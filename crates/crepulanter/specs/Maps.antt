@@ -12,11 +12,9 @@ use Rattle.chip.specs.Run.{world}
 use Rattle.chip.specs.declared.wire.Event.TheVariants.{PowerUp}
 use Rattle.trace.specs.Bytes.{event_of, answer_byte}
 use Rattle.trace.specs.Trace.{unless}
-use Rattle.map.specs.Finding.{first_free}
+use Rattle.map.specs.Finding.{Found, Sector, None, Refused, first_free}
 use Rattle.map.specs.Keeping.{kept, trace_ran, trace_array, trace_map, trace_answers}
 use Rattle.map.specs.Sectors.{with_map}
-use Rattle.map.specs.declared.finding.Found.{Found}
-use Rattle.map.specs.declared.finding.Found.TheVariants.{Sector, None, Refused}
 use Rattle.crepulanter.specs.Calls.{event_refusal, run_number, power_up_number}
 use Rattle.chip_bytes.specs.State.{bytes_fit, chip_of, bytes_of}
 

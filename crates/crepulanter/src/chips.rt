@@ -24,8 +24,7 @@ pub extern "C" fn crep_new(state: &mut [u8; at::SIZE], part: u8, select: u8) -> 
     ensures { NewSays part select result state.new }
 {
     let made = Chip::new(part, select);
-    let chip = made.chip;
-    *state = pack(chip);
+    *state = pack(&made.chip);
     made.refusal
 }
 
@@ -45,8 +44,7 @@ pub extern "C" fn crep_run(
         let ran = run(chip, array, trace, answers);
         let refused = ran.refusal;
         if refused == 0 {
-            let last = ran.chip;
-            *state = pack(last);
+            *state = pack(&ran.chip);
             return 0;
         }
         return refused;
@@ -88,8 +86,7 @@ pub extern "C" fn crep_power_up(
         let cut = chip.power_up(array, choices);
         let refused = cut.refusal;
         if refused == 0 {
-            let up = cut.chip;
-            *state = pack(up);
+            *state = pack(&cut.chip);
             return 0;
         }
         return refused;
@@ -114,8 +111,7 @@ pub extern "C" fn crep_recover(
         *pulses = free.pulses;
         let refused = free.refusal;
         if refused == 0 {
-            let started = free.chip;
-            *state = pack(started);
+            *state = pack(&free.chip);
             return 0;
         }
         return refused;

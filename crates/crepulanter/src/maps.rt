@@ -86,8 +86,7 @@ pub extern "C" fn crep_map_run(
         let ran = run(chip, array, map, trace, answers);
         let refused = ran.refusal;
         if refused == 0 {
-            let last = ran.chip;
-            *state = pack(last);
+            *state = pack(&ran.chip);
             return 0;
         }
         return refused;
@@ -133,8 +132,7 @@ pub extern "C" fn crep_map_power_up(
         let cut = power_up(chip, array, map, choices);
         let refused = cut.refusal;
         if refused == 0 {
-            let up = cut.chip;
-            *state = pack(up);
+            *state = pack(&cut.chip);
             return 0;
         }
         return refused;

@@ -19,8 +19,7 @@ use Rattle.parts.proofs.CondLaws.{cond_by}
 use Rattle.parts.proofs.RowLaws.{below, each}
 use Rattle.parts.proofs.SectorLaws.{sector_length}
 use Rattle.map.specs.Sectors.{bit_at, TrueMap}
-use Rattle.map.specs.Finding.{first_from, found_at, first_free, first_read}
-use Rattle.map.specs.declared.finding.Found.TheVariants.{Sector, None, Refused}
+use Rattle.map.specs.Finding.{Sector, None, Refused, first_from, found_at, first_free, first_read}
 use Rattle.map.proofs.MapLaws.{bit_in}
 
 -- r is the first of the n numbers from k on that passes, or k + n where none does

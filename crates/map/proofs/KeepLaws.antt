@@ -18,11 +18,10 @@ use Rattle.parts.specs.declared.wait.Target.TheVariants.{None, Sector, Locks}
 use Rattle.parts.proofs.CondLaws.{cond_by}
 use Rattle.parts.proofs.SectorLaws.{sector_same}
 use Rattle.parts.proofs.WaitLaws.{chosen_none}
-use Rattle.chip.specs.Event.{next, next_array, refusal, answered, refused, event_answer, event_array}
+use Rattle.chip.specs.Event.{Answer, next, next_array, refusal, answered, refused, event_answer, event_array}
 use Rattle.chip.specs.Run.{World, world, step, ran}
 use Rattle.chip.specs.View.{is_sample, choices_of, Touched}
 use Rattle.chip.specs.declared.chip.Chip.{Chip}
-use Rattle.chip.specs.declared.event.Answer.{Answer}
 use Rattle.chip.specs.declared.wire.Event.{Event}
 use Rattle.chip.specs.declared.wire.Event.TheVariants.{Sample, ProgramDone, PowerUp}
 use Rattle.chip.proofs.CutLaws.{touched}
@@ -77,26 +76,6 @@ module _ (e : Event) (c : Chip) (xs m : List ℕ) {plain number : ℕ} (asked : 
   pub call_taken : number ≡ 0 → (refusal c xs ≡ 0) × (length m ≡ 64)
   unfolding answer_refusal
   call_taken zero = with_taken (refusal c xs) m (sym named ∙ zero)
-
-  -- it is stepped and followed
-  pub call_followed : {answer : Answer} {target : Target} {ys n : List ℕ} → number ≡ 0 → answer ≡ answered 0 (next e c xs) → ys ≡ next_array e c xs → target ≡ ended e c → n ≡ entered_for target ys m
-      → (answer ≡ answer_of e c xs m) × ((ys ≡ answer_array e c xs m) × (n ≡ answer_map e c xs m))
-  unfolding answer_of answer_array answer_map kept step
-  call_followed zero answer array target map =
-      let taken : answer_refusal c xs m ≡ 0 = sym named ∙ zero in (
-        answer ∙ sym (unless_zero _ _ _ taken),
-        (
-          array ∙ sym (unless_zero _ _ _ taken),
-          map ∙ ap₂ (λ (t : Target) (l : List ℕ). entered_for t l m) target array ∙ sym (unless_zero _ _ _ taken),
-        ),
-      )
-
-  -- refused, all is as it was
-  pub call_refused : (number ≡ 0 → ⊥) → (refused number c ≡ answer_of e c xs m) × ((xs ≡ answer_array e c xs m) × (m ≡ answer_map e c xs m))
-  unfolding answer_of answer_array answer_map
-  call_refused other =
-      let stands : answer_refusal c xs m ≡ 0 → ⊥ = λ z. other (named ∙ z) in
-      (ap (λ (n : ℕ). refused n c) named ∙ sym (unless_not _ _ _ stands), (sym (unless_not _ _ _ stands), sym (unless_not _ _ _ stands)))
 
 -- a trace that is not refused
 pub run_taken : (c : Chip) (xs m bytes old : List ℕ) → trace_refusal c xs m bytes (length old) ≡ 0 → Taken c xs m bytes old

@@ -21,8 +21,7 @@ use Rattle.chip.specs.declared.wire.Event.TheVariants.{Sample, ProgramDone, Powe
 use Rattle.chip.proofs.EventLaws.{taken_of, sample_array}
 use Rattle.chip.proofs.RunLaws.{ran_length}
 use Rattle.trace.specs.Bytes.{event_of}
-use Rattle.trace.specs.Trace.{after, answers_of, ran_of, run_array, run_answers}
-use Rattle.trace.specs.declared.Ran.{Ran}
+use Rattle.trace.specs.Trace.{Ran, after, answers_of, ran_of, run_array, run_answers}
 use Rattle.trace.proofs.RunLaws.{run_whole, run_answers_law}
 use Rattle.map.specs.Keeping.{ended, entered_for, kept, kept_over, Piece}
 

@@ -3,21 +3,35 @@
 -- | Name | Meaning |
 -- |---|---|
 -- | `first_from test k n` | the first of the n numbers from k on that passes a test, or k + n where none does |
+-- | `Found` | what first free finds: a sector, none, or no map, with the number of the refusal |
+-- | `found_as` | what an answer of the code stands for |
 -- | `found_at k` | that sector; none where k is past the last |
 -- | `first_free m` | the first sector whose bit is clear |
 -- | `first_read xs` | the first sector whose record reads as free |
-use Rattle.std.specs.Prelude.{ℕ, zero, suc, Bool, not, cond, List, eqb, ltb, length}
+use Rattle.std.specs.Prelude.{ℕ, zero, suc, Bool, not, cond, List, eqb, ltb, length, Option, Some, None as Nowhere, Result, Ok, Err}
+use Rattle.refusals.specs.Refusals.{number_of}
+use Rattle.refusals.specs.declared.Refusal.{Refusal}
 use Rattle.gate.specs.Answer.{says_free}
 use Rattle.gate.specs.Reading.{read_of}
 use Rattle.parts.specs.Sector.{sector_of}
 use Rattle.map.specs.Sectors.{bit_at}
-use Rattle.map.specs.declared.finding.Found.{Found}
-use Rattle.map.specs.declared.finding.Found.TheVariants.{Sector, None, Refused}
 
 -- in rising order
 unfoldable pub first_from : (ℕ → Bool) → ℕ → ℕ → ℕ
 first_from test k zero = k
 first_from test k (suc n) = cond (test k) k (first_from test (suc k) n)
+
+-- V4, F18: the first free sector, 0-511; no sector is free; no map
+pub data Found : Type 0 where
+  Sector : ℕ → Found
+  None : Found
+  Refused : ℕ → Found
+
+-- O12: as a caller has it
+abbrev pub found_as : Result (Option ℕ) Refusal → Found
+found_as (Ok (Some k)) = Sector k
+found_as (Ok Nowhere) = None
+found_as (Err refusal) = Refused (number_of refusal)
 
 -- V4: none is an answer of its own
 unfoldable pub found_at : ℕ → Found

@@ -15,15 +15,13 @@
 use Rattle.std.specs.Prelude.{ℕ, ◌≤◌, ◌<◌, Bool, true, false, not, cond, ◌&&◌, ◌||◌, ◌≡◌, List, [], ◌∷◌, ◌++◌, map, eqb, length, drop}
 use Rattle.parts.specs.declared.wait.Target.{Target}
 use Rattle.parts.specs.declared.wait.Target.TheVariants.{None, Sector, Locks}
-use Rattle.chip.specs.Event.{next, next_array, refusal, answered, refused}
+use Rattle.chip.specs.Event.{Answer, next, next_array, refusal, answered, refused}
 use Rattle.chip.specs.Run.{World, world, step}
 use Rattle.chip.specs.View.{is_sample, samples}
 use Rattle.chip.specs.declared.chip.Chip.{Chip}
-use Rattle.chip.specs.declared.event.Answer.{Answer}
 use Rattle.chip.specs.declared.wire.Event.{Event}
 use Rattle.trace.specs.Bytes.{event_of, all_events}
-use Rattle.trace.specs.Trace.{after, answers_of, run_refusal, unless}
-use Rattle.trace.specs.declared.Ran.{Ran}
+use Rattle.trace.specs.Trace.{Ran, after, answers_of, run_refusal, unless}
 use Rattle.map.specs.Sectors.{entered, with_map}
 
 -- U3, U7: a program-done and a power-up end the cycle of a busy chip

@@ -1,10 +1,12 @@
 // One sector entered in a map, and the map built.
 ghost use Rattle.std.specs.Prelude.{◌≡◌, ◌%◌, ◌<◌, eqb, cond, length};
+ghost use Rattle.refusals.specs.Refusals.{status_of};
 ghost use Rattle.map.specs.Sectors.{with_bit, entered, with_map, build_refusal, built_of};
 
 use chip::chip::Chip;
 use gate::is_free;
 use parts::phase::bit_of;
+use refusals::Refusal;
 
 // How many bytes a map has, and how many sectors the array.
 pub(crate) const BYTES: usize = 64;
@@ -33,18 +35,15 @@ fn with_bit(byte: u8, bit: u8, on: bool) -> u8
     byte
 }
 
-// The refusal of a call with a map, given that of the call without one: 18 follows 1.
+// What a call with a map is answered, given what it is without one: a wrong map is refused after a wrong array, and before all else.
 #[tactic(auto, unfolding(crate::specs::Sectors::with_map))]
-pub(crate) fn with_map(number: u8, map: &[u8]) -> u8
-    ensures { result ≡ with_map number map.now }
+pub(crate) fn with_map(plain: Result<(), Refusal>, map: &[u8]) -> Result<(), Refusal>
+    ensures { status_of result ≡ with_map (status_of plain) map.now }
 {
-    if number == 1 {
-        return 1;
+    if matches!(plain, Err(Refusal::ArrayLength)) || map.len() == BYTES {
+        return plain;
     }
-    if map.len() == BYTES {
-        return number;
-    }
-    18
+    Err(Refusal::MapLength)
 }
 
 // Which bit of its byte is that of sector k.
@@ -67,30 +66,24 @@ pub(crate) fn enter(map: &mut [u8], array: &[u8], k: usize)
     map[at] = with_bit(map[at], bit_place(k), !free);
 }
 
-// Refusal 1 for an array that is not 16,384 bytes, else 0.
-fn array_number(array: &[u8]) -> u8
-    ensures { result ≡ cond (eqb (length array.now) 16384) 0 1 }
+// Refuses an array that is not 16,384 bytes.
+fn check_array(array: &[u8]) -> Result<(), Refusal>
+    ensures { status_of result ≡ cond (eqb (length array.now) 16384) 0 1 }
 {
     if array.len() == Chip::BYTES {
-        return 0;
+        return Ok(());
     }
-    1
+    Err(Refusal::ArrayLength)
 }
 
-// Builds the map of an array, whatever the lent bytes were. Refused with 1 or 18 it writes nothing.
+// Builds the map of an array, whatever the lent bytes were. Refused for the array's length or the map's, it writes nothing.
 #[tactic(auto, using(crate::proofs::MapLaws::build_fits, crate::proofs::MapLaws::entered_to_length), unfolding(crate::specs::Sectors::entered_to, crate::specs::Sectors::built_of, crate::specs::Sectors::build_refusal, trace::specs::Trace::unless))]
-pub fn build(array: &[u8], map: &mut [u8]) -> u8
-    ensures { (result ≡ build_refusal array.now map.old) × (map.new ≡ built_of array.now map.old) }
+pub fn build(array: &[u8], map: &mut [u8]) -> Result<(), Refusal>
+    ensures { (status_of result ≡ build_refusal array.now map.old) × (map.new ≡ built_of array.now map.old) }
 {
-    let plain = array_number(array);
-    let number = with_map(plain, &map[..]);
-    if number == 0 {
-        let mut k: usize = 0;
-        while k < SECTORS {
-            enter(map, array, k);
-            k = k + 1;
-        }
-        return 0;
+    with_map(check_array(array), &map[..])?;
+    for k in 0..SECTORS {
+        enter(map, array, k);
     }
-    number
+    Ok(())
 }

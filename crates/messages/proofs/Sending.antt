@@ -20,10 +20,9 @@ use Rattle.chip.specs.Event.{next, next_array, settled, sampled, judged, reacted
 use Rattle.chip.specs.Part.{enabled}
 use Rattle.chip.specs.Run.{World, world, step, note_of, lines, notes}
 use Rattle.chip.specs.Stop.{rightly, stop_effect, effect_moved}
-use Rattle.chip.specs.Transfer.{quiet, fall_in, slave_taken, address_taken, array_data, register_data}
+use Rattle.chip.specs.Transfer.{Moved, quiet, fall_in, slave_taken, address_taken, array_data, register_data}
 use Rattle.chip.specs.Wire.{line_of, edge_of, sample}
 use Rattle.chip.specs.declared.chip.Chip.{Chip}
-use Rattle.chip.specs.declared.chip.Moved.{Moved}
 use Rattle.chip.proofs.Posed.{posed}
 use Rattle.messages.specs.Messages.{begin, byte_sent, slave_byte}
 use Rattle.messages.specs.RandomRead.{restart}

@@ -24,12 +24,10 @@ use Rattle.chip.specs.Chip.{pulls, with_transfer, with_cycle, at_power_up, cut_r
 use Rattle.chip.specs.Event.{next, next_array, sampled, judged, reacted, program_done}
 use Rattle.chip.specs.Part.{enabled}
 use Rattle.chip.specs.Run.{world, step, note_of, lines, notes}
-use Rattle.chip.specs.Stop.{rightly, array_effect, right_effect, stop_effect, effect_moved}
+use Rattle.chip.specs.Stop.{Effect, Nothing, Change, Store, rightly, array_effect, right_effect, stop_effect, effect_moved}
 use Rattle.chip.specs.Transfer.{fall_in}
 use Rattle.chip.specs.Wire.{edge_of}
 use Rattle.chip.specs.declared.chip.Chip.{Chip}
-use Rattle.chip.specs.declared.chip.Effect.{Effect}
-use Rattle.chip.specs.declared.chip.Effect.TheVariants.{Nothing, Change, Store}
 use Rattle.chip.specs.declared.wire.Event.TheVariants.{ProgramDone, PowerUp}
 use Rattle.chip.proofs.Posed.{posed}
 use Rattle.messages.specs.Messages.{begin, end, byte_sent, bytes_sent, message_bytes, message, register_write}

@@ -6,10 +6,9 @@ use mathlib.Core.Path.{◌≡◌, refl, sym, ◌∙◌}
 use native.Mathlib.Omega.{arith}
 use borrow.Author.Tests.{le-leb}
 use lib.Dec.{eqb}
-use Rattle.parts.specs.Register.{written, latch_written, lock_written, written_as, with_pel, with_rpel, reserved}
+use Rattle.parts.specs.Register.{Written, written, latch_written, lock_written, written_as, with_pel, with_rpel, reserved}
 use Rattle.parts.specs.declared.register.Register.{Register}
 use Rattle.parts.specs.Wait.{target_fits, waits}
-use Rattle.parts.specs.declared.register.Written.{Written}
 use Rattle.parts.specs.declared.wait.Target.TheVariants.{None, Locks}
 use Rattle.parts.proofs.CondLaws.{cond_by}
 

@@ -1,13 +1,11 @@
 -- Rows: two that pass a test, two of steps, what each step keeps, a row of steps keeps, and a test that is computed for each number below another. Assumes nothing.
-use Prim.Native.Nat.{ℕ, zero, suc, ◌+◌, ◌≤◌, ◌<◌}
+use Prim.Native.Nat.{ℕ, zero, suc, ◌<◌}
 use mathlib.Core.Bool.{Bool, true, false, ◌&&◌}
-use mathlib.Core.Path.{◌≡◌, refl, sym, ap, ◌∙◌}
+use mathlib.Core.Path.{◌≡◌, refl, ap}
 use mathlib.Core.List.{List, [], ◌∷◌, ◌++◌}
 use native.Mathlib.Decide.{ℕ_discrete}
-use native.Mathlib.Numerals.{add-one}
 use native.Mathlib.Omega.{arith}
-use lib.ListN.{length, get_or, drop, drop_of_length-le}
-use lib.Seq.{drop-cons}
+use Rattle.std.specs.List.{list_all}
 use Rattle.parts.specs.Rows.{every, stepped}
 use Rattle.parts.proofs.CondLaws.{and_left, and_right}
 
@@ -18,24 +16,11 @@ every_on test [] second f s = s
 every_on test (x ∷ first) second f s =
     rw (and_left (test x) (every test first) f) (every_on test first second (and_right (test x) (every test first) f) s)
 
--- a loop that tests a row of numbers one by one: what is left of the test, at the number that comes
-module _ (test : ℕ → Bool) (row : List ℕ) where
-  every_here : (i : ℕ) → i < length row → every test (drop i row) ≡ (test (get_or row i 0) && every test (drop (suc i) row))
-  unfolding every
-  every_here i h = ap (every test) (drop-cons row i 0 h)
-
-  -- it passes, and the rest decides
-  pub every_again : (i : ℕ) → i < length row → test (get_or row i 0) ≡ true → every test (drop i row) ≡ every test row → every test (drop (i + 1) row) ≡ every test row
-  every_again i h pass before = rw (add-one, ← before, every_here i h, pass)
-
-  -- it fails
-  pub every_not : (i : ℕ) → i < length row → test (get_or row i 0) ≡ false → every test (drop i row) ≡ every test row → every test row ≡ false
-  every_not i h fail before = rw (← before, every_here i h, fail)
-
-  -- none is left
-  pub every_end : (i : ℕ) → length row ≤ i → every test (drop i row) ≡ every test row → every test row ≡ true
-  unfolding every
-  every_end i h before = sym before ∙ ap (every test) (drop_of_length-le row h)
+-- each passes, as std's word has it
+pub every_all : {A : Type 0} (test : A → Bool) (row : List A) → list_all test row ≡ every test row
+unfolding every
+every_all test [] = refl
+every_all test (x ∷ row) = ap (λ b. test x && b) (every_all test row)
 
 module _ {A W : Type 0} (step : A → W → W) where
   -- where two rows of steps lead, one after the other

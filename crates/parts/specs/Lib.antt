@@ -1,5 +1,6 @@
 pub mod Load
 pub mod Locks
+pub mod Note
 pub mod Phase
 pub mod Register
 pub mod Rows

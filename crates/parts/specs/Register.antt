@@ -2,18 +2,24 @@
 --
 -- | Name | Meaning |
 -- |---|---|
+-- | `Written` | the outcome of a write: the register after it, what waits then, the note |
 -- | `has_register part` | the part has a register |
 -- | `register_byte` | the byte that a read sends |
--- | `written_as r target note` | the outcome of a write: the register after it, what waits then, the note |
+-- | `written_as r target note` | such an outcome |
 -- | `with_pel`, `with_rpel`, `with_locks` | the register with one bit set or cleared; with other PPEN and BL |
 -- | `reserved`, `latch_written`, `lock_written` | rules 1, 2 and 3 |
 -- | `written r byte pin` | what a byte does, with the protect pin at the stop |
 use Rattle.std.specs.Prelude.{ℕ, ◌+◌, ◌*◌, ◌/◌, ◌%◌, Bool, true, false, cond, not, ◌&&◌, ◌||◌, eqb}
 use Rattle.parts.specs.Phase.{weight, bit_of}
 use Rattle.parts.specs.declared.register.Register.{Register}
-use Rattle.parts.specs.declared.register.Written.{Written}
 use Rattle.parts.specs.declared.wait.Target.{Target}
 use Rattle.parts.specs.declared.wait.Target.TheVariants.{None, Locks}
+
+-- S13-S17: the register, what waits where a cycle began, and the note
+pub record Written : Type 0 where
+  pub register : Register
+  pub target : Target
+  pub note : ℕ
 
 -- C1: the X24F129 has none, every other part has one
 abbrev pub has_register : ℕ → Bool

@@ -3,6 +3,7 @@
 
 pub mod load;
 pub mod locks;
+pub mod note;
 pub mod phase;
 pub mod register;
 pub mod sector;

@@ -36,22 +36,14 @@ impl Load {
         }
     }
 
-    // The load with one byte more, at the place of the low five bits of `at`.
+    // Takes one byte more, at the place of the low five bits of `at`.
     #[tactic(auto, unfolding(crate::specs::Load::loaded))]
-    pub fn with(self, at: u16, byte: u8) -> Load
-        ensures { result ≡ loaded self at byte }
+    pub fn add(&mut self, at: u16, byte: u8)
+        ensures { self.new ≡ loaded self.old at byte }
     {
-        let mut next = self;
         let place = (at % 32) as usize;
-        next.bytes[place] = byte;
-        next.places[place] = true;
-        let count = self.count;
-        if count < 33 {
-            next.count = count + 1;
-            next
-        } else {
-            next.count = 33;
-            next
-        }
+        self.bytes[place] = byte;
+        self.places[place] = true;
+        self.count = if self.count < 33 { self.count + 1 } else { 33 };
     }
 }

@@ -54,22 +54,12 @@ impl Phase {
         ensures { result ≡ phase_fits self }
     {
         match self {
-            Phase::Standby => true,
-            Phase::Slave { bits, got: _ } => bits <= 8,
-            Phase::First { bits, got: _ } => bits <= 8,
-            Phase::Second {
-                high: _,
-                bits,
-                got: _,
-            } => bits <= 8,
-            Phase::Data { bits, got: _ } => bits <= 8,
-            Phase::AckWrite => true,
-            Phase::AckRead => true,
-            Phase::AckFirst { high: _ } => true,
-            Phase::AckByte => true,
-            Phase::Sending { bit, byte: _ } => bit <= 7,
-            Phase::Waiting => true,
-            Phase::Next => true,
+            Phase::Slave { bits, .. }
+            | Phase::First { bits, .. }
+            | Phase::Second { bits, .. }
+            | Phase::Data { bits, .. } => bits <= 8,
+            Phase::Sending { bit, .. } => bit <= 7,
+            _ => true,
         }
     }
 
@@ -79,22 +69,9 @@ impl Phase {
         ensures { result ≡ phase_pulls self }
     {
         match self {
-            Phase::Standby => false,
-            Phase::Slave { bits: _, got: _ } => false,
-            Phase::First { bits: _, got: _ } => false,
-            Phase::Second {
-                high: _,
-                bits: _,
-                got: _,
-            } => false,
-            Phase::Data { bits: _, got: _ } => false,
-            Phase::AckWrite => true,
-            Phase::AckRead => true,
-            Phase::AckFirst { high: _ } => true,
-            Phase::AckByte => true,
+            Phase::AckWrite | Phase::AckRead | Phase::AckFirst { .. } | Phase::AckByte => true,
             Phase::Sending { bit, byte } => !bit_of(byte, bit),
-            Phase::Waiting => false,
-            Phase::Next => false,
+            _ => false,
         }
     }
 
@@ -104,55 +81,25 @@ impl Phase {
         ensures { result ≡ risen self bit }
     {
         match self {
-            Phase::Standby => self,
-            Phase::Slave { bits, got } => {
-                if bits < 8 {
-                    Phase::Slave {
-                        bits: bits + 1,
-                        got: with_bit(got, bit),
-                    }
-                } else {
-                    self
-                }
-            }
-            Phase::First { bits, got } => {
-                if bits < 8 {
-                    Phase::First {
-                        bits: bits + 1,
-                        got: with_bit(got, bit),
-                    }
-                } else {
-                    self
-                }
-            }
-            Phase::Second { high, bits, got } => {
-                if bits < 8 {
-                    Phase::Second {
-                        high: high,
-                        bits: bits + 1,
-                        got: with_bit(got, bit),
-                    }
-                } else {
-                    self
-                }
-            }
-            Phase::Data { bits, got } => {
-                if bits < 8 {
-                    Phase::Data {
-                        bits: bits + 1,
-                        got: with_bit(got, bit),
-                    }
-                } else {
-                    self
-                }
-            }
-            Phase::AckWrite => self,
-            Phase::AckRead => self,
-            Phase::AckFirst { high: _ } => self,
-            Phase::AckByte => self,
-            Phase::Sending { bit: _, byte: _ } => self,
+            Phase::Slave { bits, got } if bits < 8 => Phase::Slave {
+                bits: bits + 1,
+                got: with_bit(got, bit),
+            },
+            Phase::First { bits, got } if bits < 8 => Phase::First {
+                bits: bits + 1,
+                got: with_bit(got, bit),
+            },
+            Phase::Second { high, bits, got } if bits < 8 => Phase::Second {
+                high,
+                bits: bits + 1,
+                got: with_bit(got, bit),
+            },
+            Phase::Data { bits, got } if bits < 8 => Phase::Data {
+                bits: bits + 1,
+                got: with_bit(got, bit),
+            },
             Phase::Waiting => { if bit { Phase::Standby } else { Phase::Next } }
-            Phase::Next => self,
+            _ => self,
         }
     }
 }

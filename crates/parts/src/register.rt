@@ -1,8 +1,10 @@
 // The register: its four bits, the byte that it reads as, and what a byte written to it does.
 ghost use Rattle.std.specs.Prelude.{◌≡◌};
+ghost use Rattle.parts.specs.Note.{note_number};
 ghost use Rattle.parts.specs.declared.wait.Target.TheVariants.{None};
 ghost use Rattle.parts.specs.Register.{has_register, register_byte, written, reserved, written_as, latch_written, lock_written};
 
+use crate::note::Note;
 use crate::phase::{bit_of, weigh};
 use crate::wait::Target;
 
@@ -16,14 +18,6 @@ pub struct Register {
     pub rpel: bool,
     // data for the array is taken
     pub pel: bool,
-}
-
-// What a register byte did at its stop: the register after it, what waits where a cycle began, and the note.
-#[derive(Clone, Copy)]
-pub struct Written {
-    pub register: Register,
-    pub target: Target,
-    pub note: u8,
 }
 
 // Whether the part has a register: all but the X24F129, part 2.
@@ -52,82 +46,45 @@ impl Register {
         high + lock + rpel + pel
     }
 
-    // A byte that changes no bit: note 6.
-    fn refused(self) -> Written
-        ensures { result ≡ written_as self None 6 }
-    {
-        Written {
-            register: self,
-            target: Target::None,
-            note: 6,
-        }
-    }
-
     // The rule for RPEL 0: 00h clears PEL, 02h sets it, 06h with PEL set sets RPEL.
     #[tactic(auto, unfolding(crate::specs::Register::latch_written))]
-    fn latch(self, byte: u8) -> Written
-        ensures { result ≡ latch_written self byte }
+    fn latch(&mut self, byte: u8) -> Note
+        ensures { written_as self.new None (note_number result) ≡ latch_written self.old byte }
     {
-        if byte == 0 {
-            return Written {
-                register: Register { pel: false, ..self },
-                target: Target::None,
-                note: 3,
-            };
+        match byte {
+            0 => self.pel = false,
+            2 => self.pel = true,
+            6 if self.pel => self.rpel = true,
+            _ => return Note::Refused,
         }
-        if byte == 2 {
-            return Written {
-                register: Register { pel: true, ..self },
-                target: Target::None,
-                note: 3,
-            };
-        }
-        let third = (byte == 6) & self.pel;
-        if third {
-            return Written {
-                register: Register { rpel: true, ..self },
-                target: Target::None,
-                note: 3,
-            };
-        }
-        self.refused()
+        Note::Latch
     }
 
     // The rule for RPEL 1: PPEN and BL of the byte wait, unless its low bits are wrong or the pin protects them.
     #[tactic(auto, unfolding(crate::specs::Register::lock_written))]
-    fn lock(self, byte: u8, pin: bool) -> Written
-        ensures { result ≡ lock_written self byte pin }
+    fn lock(&mut self, byte: u8, pin: bool) -> (Target, Note)
+        ensures { written_as self.new result.0 (note_number result.1) ≡ lock_written self.old byte pin }
     {
-        let wrong = !(byte % 8 == 2) | (self.ppen & pin);
-        if wrong {
-            return self.refused();
+        if byte % 8 != 2 || self.ppen && pin {
+            return (Target::None, Note::Refused);
         }
+        self.rpel = false;
         let ppen = bit_of(byte, 7);
-        Written {
-            register: Register {
-                rpel: false,
-                ..self
-            },
-            target: Target::Locks {
-                ppen: ppen,
-                bl: byte / 8 % 4,
-            },
-            note: 2,
-        }
+        let bl = byte / 8 % 4;
+        (Target::Locks { ppen, bl }, Note::Locks)
     }
 
-    // What a register byte does at a rightly placed stop with the protect pin at this level.
+    // Takes a register byte at a rightly placed stop with the protect pin at this level: what waits where a cycle begins, and the note.
     #[tactic(auto, unfolding(crate::specs::Register::written))]
-    pub fn written(self, byte: u8, pin: bool) -> Written
-        ensures { result ≡ written self byte pin }
+    pub fn write(&mut self, byte: u8, pin: bool) -> (Target, Note)
+        ensures { written_as self.new result.0 (note_number result.1) ≡ written self.old byte pin }
     {
         if is_reserved(byte) {
-            return self.refused();
+            return (Target::None, Note::Refused);
         }
-        let rpel = self.rpel;
-        if rpel {
+        if self.rpel {
             return self.lock(byte, pin);
         }
-        self.latch(byte)
+        (Target::None, self.latch(byte))
     }
 }

@@ -1,5 +1,5 @@
 // What waits for the end of a cycle, and what the end, or a cut, leaves in array and register.
-ghost use Rattle.std.specs.Prelude.{◌≡◌, ◌+◌, set, cond};
+ghost use Rattle.std.specs.Prelude.{◌≡◌, ◌+◌, ◌<◌, ◌^◌, set, cond};
 ghost use Rattle.parts.specs.Wait.{alone, no_wait, chosen, taking, stored, wait_for, target_fits, waits, end_array, locks_taken};
 
 use crate::load::Load;
@@ -42,28 +42,22 @@ fn is_chosen(choices: u32, k: u32) -> bool
 }
 
 // One place of a store: where it takes its byte and the array has its address, the byte.
-fn put(array: &mut [u8], start: usize, k: usize, on: bool, byte: u8)
-    ensures { array.new ≡ cond on (set array.old (start + k) byte) array.old }
+fn put(array: &mut [u8], at: usize, on: bool, byte: u8)
+    ensures { array.new ≡ cond on (set array.old at byte) array.old }
 {
-    let n = array.len();
-    if on {
-        if start < n {
-            if k < n - start {
-                array[start + k] = byte;
-            }
-        }
+    if on && at < array.len() {
+        array[at] = byte;
     }
 }
 
 // Stores bytes in the sector that begins at `start`: places that are loaded and chosen take theirs, the others keep their own.
-fn store(array: &mut [u8], start: usize, choices: u32, places: [bool; 32], bytes: [u8; 32])
-    ensures { array.new ≡ stored array.old start (taking places choices) bytes }
+fn store(array: &mut [u8], start: usize, choices: u32, places: &[bool; 32], bytes: &[u8; 32])
+    requires { start + 32 < 2 ^ 64 }
+    ensures { array.new ≡ stored array.old start (taking places.now choices) bytes.now }
 {
-    let mut k: usize = 0;
-    while k < 32 {
+    for k in 0..32 {
         let on = places[k] & is_chosen(choices, k as u32);
-        put(array, start, k, on, bytes[k]);
-        k = k + 1;
+        put(array, start + k, on, bytes[k]);
     }
 }
 
@@ -76,7 +70,7 @@ impl Target {
         match self {
             Target::None => true,
             Target::Sector { number } => number <= 511,
-            Target::Locks { ppen: _, bl } => bl <= 3,
+            Target::Locks { bl, .. } => bl <= 3,
         }
     }
 
@@ -85,11 +79,7 @@ impl Target {
     pub fn waits(self) -> bool
         ensures { result ≡ waits self }
     {
-        match self {
-            Target::None => false,
-            Target::Sector { number: _ } => true,
-            Target::Locks { ppen: _, bl: _ } => true,
-        }
+        !matches!(self, Target::None)
     }
 }
 
@@ -99,7 +89,7 @@ impl Wait {
         ensures { result ≡ alone target }
     {
         Wait {
-            target: target,
+            target,
             places: [false; 32],
             bytes: [0; 32],
         }
@@ -113,34 +103,31 @@ impl Wait {
     }
 
     // A load waits for a sector.
-    pub fn of(number: u16, load: Load) -> Wait
-        ensures { result ≡ wait_for number load }
+    pub fn of(number: u16, load: &Load) -> Wait
+        ensures { result ≡ wait_for number load.now }
     {
-        let places = load.places;
-        let bytes = load.bytes;
         let mut kept = [0; 32];
-        store(&mut kept, 0, EVERY_PLACE, places, bytes);
+        store(&mut kept, 0, EVERY_PLACE, &load.places, &load.bytes);
         Wait {
-            target: Target::Sector { number: number },
-            places: places,
+            target: Target::Sector { number },
+            places: load.places,
             bytes: kept,
         }
     }
 
     // What the end of the cycle leaves in the array: the chosen places of a waiting sector take their bytes.
     #[tactic(auto, unfolding(crate::specs::Wait::reached))]
-    pub fn end(self, array: &mut [u8], choices: u32)
-        ensures { array.new ≡ end_array self choices array.old }
+    pub fn end(&self, array: &mut [u8], choices: u32)
+        ensures { array.new ≡ end_array self.now choices array.old }
     {
-        let target = self.target;
-        let places = self.places;
-        let bytes = self.bytes;
-        match target {
-            Target::None => (),
-            Target::Sector { number } => {
-                store(array, number as usize * 32, choices, places, bytes);
-            }
-            Target::Locks { ppen: _, bl: _ } => (),
+        if let Target::Sector { number } = self.target {
+            store(
+                array,
+                usize::from(number) * 32,
+                choices,
+                &self.places,
+                &self.bytes,
+            );
         }
     }
 }
@@ -152,19 +139,8 @@ impl Register {
         ensures { result ≡ locks_taken target choices self }
     {
         match target {
-            Target::None => self,
-            Target::Sector { number: _ } => self,
-            Target::Locks { ppen, bl } => {
-                if is_chosen(choices, 0) {
-                    Register {
-                        ppen: ppen,
-                        bl: bl,
-                        ..self
-                    }
-                } else {
-                    self
-                }
-            }
+            Target::Locks { ppen, bl } if is_chosen(choices, 0) => Register { ppen, bl, ..self },
+            _ => self,
         }
     }
 }

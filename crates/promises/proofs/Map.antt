@@ -21,10 +21,9 @@ use Rattle.trace.specs.Bytes.{event_of}
 use Rattle.trace.specs.Trace.{after}
 use Rattle.sender.specs.Sending.{event_count, sent_events, send_refusal}
 use Rattle.sender.proofs.Sends.{Sendable, send_taken, written_sent}
-use Rattle.map.specs.Finding.{first_from, found_at, first_free, first_read}
+use Rattle.map.specs.Finding.{Sector, first_from, found_at, first_free, first_read}
 use Rattle.map.specs.Keeping.{kept_over}
 use Rattle.map.specs.Sectors.{bit_at, Beside, entered_to, build_refusal, built_of}
-use Rattle.map.specs.declared.finding.Found.TheVariants.{Sector}
 use Rattle.map.proofs.FindLaws.{read_free, first_true, first_sector}
 use Rattle.map.proofs.KeepLaws.{row_keeps, answer_keeps, run_keeps}
 use Rattle.map.proofs.MapLaws.{entered_to_bytes, build_true, built_beside}

@@ -293,8 +293,8 @@ operations =
     (λ κs (on, end). (flag_byte on, (tt, tt)))
     (λ κs input r left. alone)
     -- chip_bytes::pack
-    ∷ one (whole 0 chip_bytes.pack.Kinds.ps chip_bytes.pack.Kinds.r chip_bytes.pack.Reads.Post)
-    (λ κs (chip, end). (bytes_of chip, (tt, tt)))
+    ∷ one (whole 1 chip_bytes.pack.Kinds.ps chip_bytes.pack.Kinds.r chip_bytes.pack.Reads.Post)
+    (λ κs (chip, end). (bytes_of chip.now, (tt, tt)))
     (λ κs input r left. alone)
     -- chip_bytes::bytes_fit
     ∷ one (whole 1 chip_bytes.bytes_fit.Kinds.ps chip_bytes.bytes_fit.Kinds.r chip_bytes.bytes_fit.Reads.Post)

@@ -18,13 +18,10 @@ use Rattle.chip.specs.Chip.{with_transfer, with_cycle, with_levels, chip_fits, p
 use Rattle.chip.specs.Event.{next, next_array, sampled, judged, reacted, line_in, edge_in, settled, program_done, refusal, answered, refused, event_answer, event_array}
 use Rattle.chip.specs.Part.{selects, marked}
 use Rattle.chip.specs.Run.{world, step, note_of, lines, notes}
-use Rattle.chip.specs.Stop.{stop_effect, right_effect, array_effect, effect_moved}
-use Rattle.chip.specs.Transfer.{quiet, at_phase, fall_in, slave_taken, address_taken, array_data, register_data, byte_begun, byte_ended}
+use Rattle.chip.specs.Stop.{Effect, Nothing, Change, Store, Spoil, stop_effect, right_effect, array_effect, effect_moved}
+use Rattle.chip.specs.Transfer.{Moved, quiet, at_phase, fall_in, slave_taken, address_taken, array_data, register_data, byte_begun, byte_ended}
 use Rattle.chip.specs.Wire.{line_of}
 use Rattle.chip.specs.declared.chip.Chip.{Chip}
-use Rattle.chip.specs.declared.chip.Effect.{Effect}
-use Rattle.chip.specs.declared.chip.Effect.TheVariants.{Nothing, Change, Store, Spoil}
-use Rattle.chip.specs.declared.chip.Moved.{Moved}
 use Rattle.chip.specs.declared.wire.Edge.{Edge}
 use Rattle.chip.specs.declared.wire.Edge.TheVariants.{Quiet, Start, Stop, Rise, Fall}
 use Rattle.chip.specs.declared.wire.Event.{Event}

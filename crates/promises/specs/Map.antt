@@ -9,10 +9,9 @@
 use Rattle.std.specs.Prelude.{ℕ, ◌<◌, true, List, ◌≡◌}
 use Rattle.chip.specs.declared.chip.Chip.{Chip}
 use Rattle.chip.specs.declared.wire.Event.{Event}
-use Rattle.map.specs.Finding.{first_free}
+use Rattle.map.specs.Finding.{Sector, first_free}
 use Rattle.map.specs.Keeping.{answer_array, answer_map, trace_array, trace_map}
 use Rattle.map.specs.Sectors.{bit_at, Beside}
-use Rattle.map.specs.declared.finding.Found.TheVariants.{Sector}
 use Rattle.promises.specs.Sender.{Wrote}
 
 -- O13, O14: the entries that take a map

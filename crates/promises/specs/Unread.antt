@@ -11,7 +11,7 @@ use Rattle.parts.specs.Register.{has_register}
 use Rattle.chip.specs.Chip.{with_transfer, with_cycle}
 use Rattle.chip.specs.Run.{World, ran, lines, notes}
 use Rattle.chip.specs.declared.chip.Chip.{Chip}
-use Rattle.chip.specs.declared.event.Answer.{Answer}
+use Rattle.chip.specs.Event.{Answer}
 use Rattle.chip.specs.declared.wire.Event.{Event}
 
 -- C17: PPEN, BL, RPEL, PEL and the mark

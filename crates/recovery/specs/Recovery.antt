@@ -14,7 +14,7 @@ use Rattle.chip.specs.Run.{World, world, step}
 use Rattle.chip.specs.Wire.{sample}
 use Rattle.chip.specs.declared.chip.Chip.{Chip}
 use Rattle.trace.specs.Bytes.{sample_byte}
-use Rattle.recovery.specs.declared.Recovered.{Recovered}
+use Rattle.recovery.specs.Recovery.{Recovered}
 
 -- R2: the clock low, then high, the data line let go in both
 unfoldable pub pulse : Bool → World → World

@@ -1,5 +1,6 @@
 -- Each refusal has a number of its own, and none has 0.
 use Rattle.std.specs.Prelude.{ℕ, ◌≡◌, List, [], ◌∷◌, slice_index_or, Result, Ok, Err}
+use Rattle.std.specs.Result.{IsOk}
 use Rattle.std.proofs.Common.{refl, ◌∙◌, sym, ap}
 use Rattle.refusals.specs.Refusals.{number_of, status_of}
 use Rattle.refusals.specs.declared.Refusal.{Refusal}
@@ -63,3 +64,8 @@ same_status (Ok _) (Ok _) e = refl
 same_status (Ok u) (Err r) e = absurd (never_0 r (sym e))
 same_status (Err r) (Ok u) e = absurd (never_0 r e)
 same_status (Err a) (Err b) e = ap Err (same_refusal a b e)
+
+-- a call that is told by 0 was taken
+pub taken : {A : Type 0} (told : Result A Refusal) → status_of told ≡ 0 → IsOk told
+taken (Ok value) e = refl
+taken (Err r) e = absurd (never_0 r e)

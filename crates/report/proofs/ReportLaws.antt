@@ -14,8 +14,7 @@ use Rattle.chip.specs.Run.{World, world, step}
 use Rattle.chip.specs.declared.chip.Chip.{Chip}
 use Rattle.chip.proofs.EventLaws.{taken_so}
 use Rattle.trace.specs.Bytes.{event_of, all_events}
-use Rattle.trace.specs.Trace.{answers_of, run_refusal, run_answers, ran_of, unless}
-use Rattle.trace.specs.declared.Ran.{Ran}
+use Rattle.trace.specs.Trace.{Ran, answers_of, run_refusal, run_answers, ran_of, unless}
 use Rattle.report.specs.Report.{answer_text, report_of}
 use Rattle.report.specs.Text.{put, numeral, heading, events_word, lines_from, count_text, refused_text}
 use Rattle.report.proofs.TextLaws.{put_append, put_start, numeral_short, lines_short, refused_length}

@@ -1,14 +1,16 @@
 -- Text on a page, numerals by their width, and how long a line is. Assumes nothing.
-use Prim.Native.Nat.{ℕ, zero, suc, ◌+◌, ◌*◌, ◌/◌, ◌≤◌, ◌<◌}
+use Prim.Native.Nat.{ℕ, zero, suc, ◌+◌, ◌-◌, ◌*◌, ◌/◌, ◌≤◌, ◌<◌}
 use mathlib.Core.Bool.{Bool, true, false, cond}
 use mathlib.Core.Path.{◌≡◌, refl, sym, ap, ◌∙◌}
 use mathlib.Core.List.{List, [], ◌∷◌, ◌++◌}
 use native.Mathlib.Numerals.{add-one}
 use native.Mathlib.Omega.{arith}
-use borrow.Author.Tests.{lt-ltb, le-ltb}
+use borrow.Author.Tests.{lt-ltb}
+use borrow.Rule.Slice.PartMut.{put_mid}
 use lib.Dec.{eqb, ltb}
-use lib.ListN.{length, drop, set, get_or, length-append, drop_of_length-le}
-use lib.Seq.{sets, sets-eq, drop-cons}
+use lib.ListN.{length, take, drop, set, get_or, length-append, length-drop, drop_of_length-le}
+use lib.Seq.{sets, sets-eq, take_all, drop-cons}
+use Rattle.std.proofs.lemmas.Slice.{put_mid-paste}
 use Rattle.trace.specs.Bytes.{answer_note}
 use Rattle.report.specs.Text.{put, glyph, digits, width, numeral, note_line, event_line, lines_from, refused_word, refused_text}
 
@@ -33,28 +35,10 @@ put_start page s room =
     let none : 0 + length s ≡ length s = omega arith in
     put_sets page 0 s ∙ sets-eq s page 0 (omega arith) ∙ ap (λ (k : ℕ). s ++ drop k page) none
 
--- numerals of one digit, two, three, four
-module _ (n : ℕ) where
-  pub numeral_1 : n < 10 → numeral n ≡ glyph n ∷ []
-  unfolding numeral width digits
-  numeral_1 h = simp (lt-ltb _ _ h)
-
-  pub numeral_2 : 10 ≤ n → n < 100 → numeral n ≡ glyph (n / 10) ∷ glyph n ∷ []
-  unfolding numeral width digits
-  numeral_2 l h = simp (le-ltb _ _ l, lt-ltb _ _ h)
-
-  pub numeral_3 : 100 ≤ n → n < 1000 → numeral n ≡ glyph (n / 10 / 10) ∷ glyph (n / 10) ∷ glyph n ∷ []
-  unfolding numeral width digits
-  numeral_3 l h =
-      let low : 10 ≤ n = omega arith in
-      simp (le-ltb _ _ low, le-ltb _ _ l, lt-ltb _ _ h)
-
-  pub numeral_4 : 1000 ≤ n → numeral n ≡ glyph (n / 10 / 10 / 10) ∷ glyph (n / 10 / 10) ∷ glyph (n / 10) ∷ glyph n ∷ []
-  unfolding numeral width digits
-  numeral_4 l =
-      let low : 10 ≤ n = omega arith in
-      let mid : 100 ≤ n = omega arith in
-      simp (le-ltb _ _ low, le-ltb _ _ mid, le-ltb _ _ l)
+-- the numeral of one digit
+pub numeral_1 : (n : ℕ) → n < 10 → numeral n ≡ glyph n ∷ []
+unfolding numeral width digits
+numeral_1 n h = simp (lt-ltb _ _ h)
 
 -- a numeral has at most four digits
 digits_length : (k n : ℕ) → length (digits k n) ≡ k
@@ -68,19 +52,55 @@ width_by false true c = omega arith
 width_by false false true = omega arith
 width_by false false false = omega arith
 
+pub width_short : (n : ℕ) → width n ≤ 4
+unfolding width
+width_short n = width_by (ltb n 10) (ltb n 100) (ltb n 1000)
+
 pub numeral_short : (n : ℕ) → length (numeral n) ≤ 4
-unfolding numeral width
-numeral_short n = rw (digits_length (width n) n) (width_by (ltb n 10) (ltb n 100) (ltb n 1000))
+unfolding numeral
+numeral_short n = rw (digits_length (width n) n) (width_short n)
 
--- a turn of a loop that puts a text byte by byte, and its end
-module _ (page : List ℕ) (at : ℕ) (s : List ℕ) (i : ℕ) where
-  pub put_again : i < length s → put (set page at (get_or s i 0)) (at + 1) (drop (i + 1) s) ≡ put page at (drop i s)
-  unfolding put
-  put_again h = rw (add-one i, drop-cons s i 0 h)
+-- a numeral is the end of the four last digits
+numeral_end : (n : ℕ) → drop (4 - width n) (glyph (n / 1000) ∷ glyph (n / 100) ∷ glyph (n / 10) ∷ glyph n ∷ []) ≡ numeral n
+unfolding numeral width digits
+numeral_end n = go (ltb n 10) (ltb n 100) (ltb n 1000)
+  where
+    go :
+        (a b c : Bool)
+        → drop (4 - cond a 1 (cond b 2 (cond c 3 4))) (glyph (n / 1000) ∷ glyph (n / 100) ∷ glyph (n / 10) ∷ glyph n ∷ [])
+        ≡ digits (cond a 1 (cond b 2 (cond c 3 4))) n
+    go true b c = refl
+    go false true c = refl
+    go false false true =
+        let hundreds : n / 100 ≡ n / 10 / 10 = omega arith in
+        λ i. glyph (hundreds i) ∷ glyph (n / 10) ∷ glyph n ∷ []
+    go false false false =
+        let thousands : n / 1000 ≡ n / 10 / 10 / 10 = omega arith in
+        let hundreds : n / 100 ≡ n / 10 / 10 = omega arith in
+        λ i. glyph (thousands i) ∷ glyph (hundreds i) ∷ glyph (n / 10) ∷ glyph n ∷ []
 
-  pub put_end : length s ≤ i → page ≡ put page at (drop i s)
-  unfolding put
-  put_end h = rw (drop_of_length-le s h)
+-- so it is with a name for each part on the way
+pub numeral_part :
+    (n : ℕ) {w a b c d : ℕ}
+    → w ≡ width n
+    → a ≡ glyph (n / 1000)
+    → b ≡ glyph (n / 100)
+    → c ≡ glyph (n / 10)
+    → d ≡ glyph n
+    → take (4 - (4 - w)) (drop (4 - w) (a ∷ b ∷ c ∷ d ∷ [])) ≡ numeral n
+numeral_part n {w} {a} {b} {c} {d} wide thousands hundreds tens ones =
+    take_all (4 - (4 - w)) (drop (4 - w) (a ∷ b ∷ c ∷ d ∷ [])) (simp length-drop (omega arith))
+    ∙ (λ i. drop (4 - wide i) (thousands i ∷ hundreds i ∷ tens i ∷ ones i ∷ []))
+    ∙ numeral_end n
+
+-- a text that is copied into a part of the page is put there
+pub put_copied : (page : List ℕ) (at n : ℕ) (s t : List ℕ) → at + n ≤ length page → n ≡ length s → t ≡ s → put_mid at n page t ≡ put page at s
+put_copied page at n s t room long same =
+    let whole : put page at s ≡ take at page ++ s ++ drop (at + length s) page = put_sets page at s ∙ sets-eq s page at (omega arith) in
+    put_mid-paste at n page t s n same refl long
+    ∙ ap (λ (k : ℕ). take at page ++ take k s ++ drop (at + k) page) long
+    ∙ ap (λ (l : List ℕ). take at page ++ l ++ drop (at + length s) page) (take_all (length s) s (omega arith))
+    ∙ sym whole
 
 -- a line by its parts: how long it is, and how it is put
 module _ (position note : ℕ) where

@@ -3,7 +3,7 @@
 #![tactic(auto)]
 
 ghost use Rattle.std.specs.Prelude.{◌≡◌, ◌++◌, ◌+◌, ◌≤◌, ◌<◌, length, take, drop};
-ghost use Rattle.report.specs.Text.{put, glyph, numeral, event_line, lines_from, refused_text};
+ghost use Rattle.report.specs.Text.{put, glyph, width, numeral, event_line, lines_from, refused_text};
 ghost use Rattle.parts.specs.Sector.{erased};
 ghost use Rattle.report.specs.Report.{report_of, answer_text};
 
@@ -13,40 +13,7 @@ use chip::chip::Chip;
 fn glyph(n: usize) -> u8
     ensures { result ≡ glyph n }
 {
-    (48 + n % 10) as u8
-}
-
-// Writes a number below 10,000.
-#[tactic(auto, using(crate::proofs::TextLaws::numeral_1, crate::proofs::TextLaws::numeral_2, crate::proofs::TextLaws::numeral_3, crate::proofs::TextLaws::numeral_4), unfolding(crate::specs::Text::put))]
-fn put_number(page: &mut [u8; 32768], at: usize, n: usize) -> usize
-    requires { (at + 4 ≤ 32768) × (n < 10000) }
-    ensures value { result ≡ at + length (numeral n) }
-    ensures page_after { page.new ≡ put page.old at (numeral n) }
-    ensures upper_bound { result ≤ at + 4 }
-{
-    let second = at + 1;
-    let third = second + 1;
-    let fourth = third + 1;
-    if n < 10 {
-        page[at] = glyph(n);
-        return second;
-    }
-    if n < 100 {
-        page[at] = glyph(n / 10);
-        page[second] = glyph(n);
-        return third;
-    }
-    if n < 1000 {
-        page[at] = glyph(n / 10 / 10);
-        page[second] = glyph(n / 10);
-        page[third] = glyph(n);
-        return fourth;
-    }
-    page[at] = glyph(n / 10 / 10 / 10);
-    page[second] = glyph(n / 10 / 10);
-    page[third] = glyph(n / 10);
-    page[fourth] = glyph(n);
-    fourth + 1
+    b'0' + (n % 10) as u8
 }
 
 // Writes a text.
@@ -55,14 +22,33 @@ fn put_text(page: &mut [u8], at: usize, text: &[u8]) -> usize
     ensures value { result ≡ at + length text.now }
     ensures page_after { page.new ≡ put page.old at text.now }
 {
-    let mut i: usize = 0;
-    let mut end = at;
-    while i < text.len() {
-        page[end] = text[i];
-        end = end + 1;
-        i = i + 1;
-    }
+    let end = at + text.len();
+    page[at..end].copy_from_slice(text);
     end
+}
+
+// How many digits a number below 10,000 takes.
+#[tactic(auto, unfolding(crate::specs::Text::width))]
+fn width(n: usize) -> usize
+    ensures { result ≡ width n }
+{
+    match n {
+        0..=9 => 1,
+        10..=99 => 2,
+        100..=999 => 3,
+        _ => 4,
+    }
+}
+
+// Writes a number below 10,000.
+fn put_number(page: &mut [u8; 32768], at: usize, n: usize) -> usize
+    requires { (at + 4 ≤ 32768) × (n < 10000) }
+    ensures value { result ≡ at + length (numeral n) }
+    ensures page_after { page.new ≡ put page.old at (numeral n) }
+    ensures upper_bound { result ≤ at + 4 }
+{
+    let digits = [glyph(n / 1000), glyph(n / 100), glyph(n / 10), glyph(n)];
+    put_text(page, at, &digits[4 - width(n)..])
 }
 
 // Writes the line of an event, none where its note is 0.
@@ -89,25 +75,22 @@ fn put_lines(page: &mut [u8; 32768], at: usize, answers: &[u8]) -> usize
     ensures value { result ≡ at + length (lines_from 0 answers.now) }
     ensures page_after { page.new ≡ put page.old at (lines_from 0 answers.now) }
 {
-    let mut i: usize = 0;
     let mut end = at;
-    while i < answers.len() {
-        end = put_event(page, end, i, answers[i]);
-        i = i + 1;
+    for (position, answer) in answers.iter().enumerate() {
+        end = put_event(page, end, position, *answer);
     }
     end
 }
 
-// Writes the heading, the lines of the first answers and their count.
-fn put_answers(page: &mut [u8; 32768], answers: &[u8], n: usize) -> usize
-    requires { (n ≤ length answers.now) × (n ≤ 4096) }
-    ensures value { result ≡ length (answer_text (take n answers.now)) }
-    ensures page_after { page.new ≡ put page.old 0 (answer_text (take n answers.now)) }
-    ensures page_len { length page.old ≡ 32768 }
+// Writes the heading, the lines of the answers and their count.
+fn put_answers(page: &mut [u8; 32768], answers: &[u8]) -> usize
+    requires { length answers.now ≤ 4096 }
+    ensures value { result ≡ length (answer_text answers.now) }
+    ensures page_after { page.new ≡ put page.old 0 (answer_text answers.now) }
 {
     let first = put_text(page, 0, b"event note\n");
-    let last = put_lines(page, first, &answers[..n]);
-    let word = put_number(page, last, n);
+    let last = put_lines(page, first, answers);
+    let word = put_number(page, last, answers.len());
     put_text(page, word, b" events\n")
 }
 
@@ -116,7 +99,6 @@ fn put_answers(page: &mut [u8; 32768], answers: &[u8], n: usize) -> usize
 fn put_refused(page: &mut [u8; 32768], number: u8) -> usize
     ensures value { result ≡ length (refused_text number) }
     ensures page_after { page.new ≡ put page.old 0 (refused_text number) }
-    ensures page_len { length page.old ≡ 32768 }
 {
     let at = put_text(page, 0, b"refused ");
     let end = put_number(page, at, number as usize);
@@ -136,13 +118,12 @@ pub fn write_report(chip: Chip, trace: &[u8], page: &mut [u8; 32768]) -> usize
     ensures value { result ≡ length (report_of chip trace.now) }
     ensures page_after { page.new ≡ report_of chip trace.now ++ drop (length (report_of chip trace.now)) page.old }
 {
-    let few = trace.len() <= 4096;
-    if few {
+    if trace.len() <= 4096 {
         let mut array = erased();
-        let mut answers = [0u8; 4096];
+        let mut answers = [0; 4096];
         let ran = trace::run(chip, &mut array, trace, &mut answers);
         if ran.refusal == 0 {
-            return put_answers(page, &answers, trace.len());
+            return put_answers(page, &answers[..trace.len()]);
         }
         return put_refused(page, ran.refusal);
     }

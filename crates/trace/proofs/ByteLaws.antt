@@ -1,14 +1,11 @@
 -- Event bytes and answer bytes read back: a sample's byte is that sample, an answer byte has its line and its note, and so what a trace answers has the
 -- lines and the notes of the row that it runs. Assumes nothing.
-use Prim.Native.Nat.{ℕ, ◌+◌, ◌*◌, ◌/◌, ◌%◌, ◌≤◌, ◌<◌}
+use Prim.Native.Nat.{ℕ, ◌+◌, ◌*◌, ◌/◌, ◌%◌, ◌≤◌}
 use mathlib.Core.Bool.{Bool, true, false}
-use mathlib.Core.Path.{◌≡◌, refl, sym, ap₂}
+use mathlib.Core.Path.{◌≡◌, refl, ap₂}
 use mathlib.Core.List.{List, [], ◌∷◌, map}
 use native.Mathlib.Omega.{arith}
-use borrow.Author.Tests.{eq-eqb, le-leb, lt-leb, ne_eqb}
-use lib.ListN.{length, get_or, drop}
-use Rattle.parts.specs.Rows.{every}
-use Rattle.parts.proofs.RowLaws.{every_again, every_not}
+use borrow.Author.Tests.{eq-eqb, ne_eqb}
 use Rattle.chip.specs.Run.{World, step, note_of, lines, notes}
 use Rattle.chip.specs.Wire.{sample}
 use Rattle.chip.proofs.ViewLaws.{next_note}
@@ -61,13 +58,3 @@ unfolding answers_of notes note_of
 notes_answered [] w = refl
 notes_answered (byte ∷ bytes) w =
     ap₂ (λ (n : ℕ) (l : List ℕ). n ∷ l) (answer_note_law (step (event_of byte) w).chip.line (note_of (event_of byte) w) (next_note (event_of byte) w.chip w.array)) (notes_answered bytes (step (event_of byte) w))
-
--- a byte above 11 is no event byte, and the row that it stands in is none of events
-pub no_event : (bytes : List ℕ) (i : ℕ) → i < length bytes → 11 < get_or bytes i 0 → every is_event (drop i bytes) ≡ every is_event bytes
-    → false ≡ every is_event bytes
-no_event bytes i h above here = sym (every_not is_event bytes i h (lt-leb _ _ above) here)
-
--- one up to 11 leaves what the rest says
-pub one_event : (bytes : List ℕ) (i : ℕ) → i < length bytes → get_or bytes i 0 ≤ 11 → every is_event (drop i bytes) ≡ every is_event bytes
-    → every is_event (drop (i + 1) bytes) ≡ every is_event bytes
-one_event bytes i h fits here = every_again is_event bytes i h (le-leb _ _ fits) here

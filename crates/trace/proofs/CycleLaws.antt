@@ -21,7 +21,7 @@ use Rattle.chip.specs.Run.{World, step, note_of, notes}
 use Rattle.chip.specs.Stop.{effect_moved}
 use Rattle.chip.specs.View.{is_sample, samples, pin_high, mute, writes}
 use Rattle.chip.specs.declared.chip.Chip.{Chip}
-use Rattle.chip.specs.declared.chip.Moved.{Moved}
+use Rattle.chip.specs.Transfer.{Moved}
 use Rattle.chip.specs.declared.wire.Event.{Event}
 use Rattle.chip.specs.declared.wire.Event.TheVariants.{Sample, ProgramDone, PowerUp}
 use Rattle.chip.proofs.EventLaws.{busy_sample, sample_array}

@@ -6,14 +6,16 @@
 -- | `answers_of bytes w` | its answer bytes |
 -- | `run_refusal` | 1, 2, 4, 5, 6 in this order, or none |
 -- | `unless number kept run` | what is left where a trace is refused, and where it runs |
--- | `ran_of` | the refusal and the chip |
+-- | `Ran`, `ran_of` | the refusal and the chip |
+-- | `ran_as told c` | what a run stands for that told this and left the chip c |
 -- | `run_array`, `run_answers` | the array and the answer buffer at exit |
-use Rattle.std.specs.Prelude.{ℕ, cond, List, [], ◌∷◌, ◌++◌, map, eqb, leb, length, drop}
+use Rattle.std.specs.Prelude.{ℕ, cond, List, [], ◌∷◌, ◌++◌, map, eqb, leb, length, drop, Result}
+use Rattle.refusals.specs.Refusals.{status_of}
+use Rattle.refusals.specs.declared.Refusal.{Refusal}
 use Rattle.chip.specs.Event.{refusal}
 use Rattle.chip.specs.Run.{World, world, step, note_of, ran}
 use Rattle.chip.specs.declared.chip.Chip.{Chip}
 use Rattle.trace.specs.Bytes.{event_of, all_events, answer_byte}
-use Rattle.trace.specs.declared.Ran.{Ran}
 
 -- B4: each byte is one event
 unfoldable pub after : List ℕ → World → World
@@ -36,6 +38,11 @@ run_refusal c xs bytes room =
 unfoldable pub unless {ℓ} : {A : Type ℓ} → ℕ → A → A → A
 unless number kept run = cond (eqb number 0) run kept
 
+-- O3: the number of the refusal, or 0, and the chip
+pub record Ran : Type 0 where
+  pub refusal : ℕ
+  pub chip : Chip
+
 -- the chip as given, or the one after the trace
 unfoldable pub ran_of : Chip → List ℕ → List ℕ → List ℕ → Ran
 ran_of c xs bytes old =
@@ -43,6 +50,10 @@ ran_of c xs bytes old =
       refusal = run_refusal c xs bytes (length old);
       chip = unless (run_refusal c xs bytes (length old)) c (after bytes (world c xs)).chip;
     }
+
+-- as a caller has it who lent the chip
+abbrev pub ran_as : Result (Unit {0}) Refusal → Chip → Ran
+ran_as told c = record { refusal = status_of told; chip = c }
 
 -- as it was, or as the events left it
 unfoldable pub run_array : Chip → List ℕ → List ℕ → List ℕ → List ℕ

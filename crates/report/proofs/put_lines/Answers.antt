@@ -2,12 +2,12 @@
 use Rattle.report.proofs.TextLaws.{going_again, going_ends}
 use Rattle.report.proofs.put_lines.Goals as goal
 
-pub loop-i-preserved : goal.loop-i-preserved
-loop-i-preserved c =
+pub loop-position-preserved : goal.loop-position-preserved
+loop-position-preserved c =
     simp (c.put_event-end.ensures.value, c.put_event-end.ensures.page_after)
-    (going_again _ _ _ _ _ _ c.loop-i.invariant c.loop-i-test.true)
+    (going_again _ _ _ _ _ _ c.loop-position.invariant c.loop-position-test.true)
 
 pub returns : goal.returns
 returns c =
-    let whole = going_ends _ _ _ _ _ _ c.loop-i.invariant c.loop-i-test.false in
+    let whole = going_ends _ _ _ _ _ _ c.loop-position.invariant c.loop-position-test.false in
     record { value = whole.0; page_after = whole.1 }

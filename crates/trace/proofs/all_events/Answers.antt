@@ -1,11 +1,12 @@
--- The test of what is left is the test of the whole: before the first byte, and after the last. Assumes nothing.
-use Rattle.std.proofs.Common.{refl, sym, arith}
-use Rattle.parts.proofs.RowLaws.{every_end}
+-- Each byte of the trace is asked. Assumes nothing.
+use Rattle.std.proofs.Common.{◌∙◌, rules, tests}
+use Rattle.std.proofs.lemmas.Iterator.{YieldsList-from_slice}
+use Rattle.std.proofs.lemmas.Iterator.Search.{all_from_yields_List}
+use Rattle.parts.proofs.RowLaws.{every_all}
 use Rattle.trace.specs.Bytes.{is_event}
 use Rattle.trace.proofs.all_events.Goals as goal
 
-pub loop-i-init : goal.loop-i-init
-loop-i-init c = (omega arith, refl)
-
 pub returns : goal.returns
-returns c = sym (every_end is_event _ _ c.loop-i-test.false c.loop-i.invariant.1)
+returns c =
+    all_from_yields_List is_event _ _ _ c.all.ensures.ran (YieldsList-from_slice c.args.trace.now cc) (λ x b q k. search (rules, tests))
+    ∙ every_all is_event c.args.trace.now

@@ -1,11 +1,7 @@
 -- Before each turn the trace is `Going`.
-use Rattle.std.proofs.Common.{◌≡◌, ◌-◌, length}
 use Rattle.chip.specs.Run.{world}
 use Rattle.trace.proofs.RunLaws.{Going}
 use Rattle.trace.proofs.run_events.Given as goal
 
 abbrev pub invariant-loop-i : goal.invariant-loop-i
-invariant-loop-i l = Going l.trace l.fn.answers (world l.fn.chip l.fn.array) l.i l.c l.array l.answers × (length l.array ≡ length l.fn.array)
-
-abbrev pub decreases-loop-i : goal.decreases-loop-i
-decreases-loop-i l = length l.trace - l.i
+invariant-loop-i l = Going l.trace l.fn.answers (world l.fn.chip l.fn.array) l.i l.chip l.array l.answers

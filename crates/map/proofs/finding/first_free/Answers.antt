@@ -8,16 +8,16 @@ pub returns-then-byte : goal.returns-then-byte
 returns-then-byte c =
     let m = c.args.map.now in
     let some : get_or m c.loop-at.at 0 < 255 = omega (arith, c.type_inv.map c.loop-at.at) in
-    rw c.lowest_clear.ensures (sym (found_in m c.loop-at.at c.if-map-eq-BYTES.true c.loop-at-test.true c.loop-at.invariant.1 some))
+    rw (c.from.ensures, c.lowest_clear.ensures) (sym (found_in m c.loop-at.at c.if-map-ne-BYTES.false (omega arith) c.loop-at.invariant some))
 
 pub loop-at-preserved : goal.loop-at-preserved
 loop-at-preserved c =
     let m = c.args.map.now in
     let next : (c.loop-at.at + 1) * 8 ≡ c.loop-at.at * 8 + 8 = omega arith in
-    (omega arith, rw next (set_more m c.loop-at.at 8 (omega arith) c.loop-at.invariant.1 (rw c.if-byte.false set_all)))
+    rw next (set_more m c.loop-at.at 8 (omega arith) c.loop-at.invariant (rw c.if-byte.false set_all))
 
-pub returns-then-map-eq-BYTES : goal.returns-then-map-eq-BYTES
+pub returns : goal.returns
 unfolding found_at
-returns-then-map-eq-BYTES c =
+returns c =
     let end : c.loop-at.at ≡ 64 = omega arith in
-    sym (found_at_law c.args.map.now 512 c.if-map-eq-BYTES.true (omega arith) (rw end at c.loop-at.invariant.1) (λ h. absurd (omega arith)))
+    sym (found_at_law c.args.map.now 512 c.if-map-ne-BYTES.false (omega arith) (rw end at c.loop-at.invariant) (λ h. absurd (omega arith)))
