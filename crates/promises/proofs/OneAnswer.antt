@@ -1,6 +1,7 @@
 -- One answer for one input, for every public operation of every crate. Each line of the list has an operation's contract, as the toolchain reads
 -- it off the source, and the outcome that it names, in the words of its `ensures`: the answer, then one place a parameter, with the bytes that a
--- `&mut` holds afterwards; a contract that is a record of parts is compared part by part. Two outcomes are then equal, by one lemma or by the parts.
+-- `&mut` holds afterwards; a contract that is a record of parts, or names an answer by what it stands for, is compared part by part. Two outcomes
+-- are then equal, by one lemma or by the parts.
 -- Assumes nothing.
 use Prim.Native.Nat.{ℕ}
 use mathlib.Core.List.{List, [], ◌∷◌, ◌++◌}
@@ -32,14 +33,14 @@ use Rattle.map.specs.Sectors.{build_refusal, built_of}
 use Rattle.map.proofs as map
 use Rattle.recovery.specs.Recovery.{recovery_answer, recovery_array}
 use Rattle.recovery.proofs as recovery
-use Rattle.gate.specs.Limiting.{limits_of, limited_of}
+use Rattle.refusals.proofs.Numbers.{same_status}
 use Rattle.gate.specs.Naming.{span_of, name_of}
-use Rattle.gate.specs.Reading.{is_free, read_of}
-use Rattle.gate.specs.Answer.{given_of}
-use Rattle.gate.specs.Writing.{write_of, written_of}
+use Rattle.gate.specs.Reading.{is_free}
+use Rattle.gate.specs.Answer.{read_as, given_of}
 use Rattle.gate.proofs as gate
-use Rattle.sender.specs.Sending.{sent_of, sent_buffer}
+use Rattle.gate.proofs.Answers.{same_read}
 use Rattle.sender.proofs as sender
+use Rattle.sender.proofs.Sends.{same_sent}
 use Rattle.report.specs.Report.{report_of}
 use Rattle.report.proofs as report
 use Rattle.chip_bytes.specs.State.{flag_byte, bytes_fit, chip_of, bytes_of}
@@ -256,24 +257,21 @@ operations =
     (λ κs (chip, (array, (pin, end))). (recovery_answer pin chip array.now, (tt, (recovery_array pin chip array.now, (tt, tt)))))
     (λ κs input r left. with_array)
     -- gate::write
-    ∷ one (whole 2 gate.write.Kinds.ps gate.write.Kinds.r gate.write.Reads.Post)
-    (λ κs (buffer, (closed, (opened, (label, end)))). (write_of buffer.now closed opened label.now, (written_of buffer.now closed opened label.now, (tt, (tt, (tt, tt))))))
-    (λ κs input r left p i. (p.0 i, (p.1 i, left.1)))
+    ∷ by_parts (whole 2 gate.write.Kinds.ps gate.write.Kinds.r gate.write.Reads.Post)
+    (λ κs input r r' left left' p q i. (same_status r r' (both p.0 q.0) i, (both p.1 q.1 i, (tt, (tt, (tt, tt))))))
     -- gate::set_limits
-    ∷ one (whole 1 gate.set_limits.Kinds.ps gate.set_limits.Kinds.r gate.set_limits.Reads.Post)
-    (λ κs (bytes, (closed, (opened, end))). (limits_of bytes.now closed opened, (limited_of bytes.now closed opened, (tt, (tt, tt)))))
-    (λ κs input r left p i. (p.0 i, (p.1 i, left.1)))
+    ∷ by_parts (whole 1 gate.set_limits.Kinds.ps gate.set_limits.Kinds.r gate.set_limits.Reads.Post)
+    (λ κs input r r' left left' p q i. (same_status r r' (both p.0 q.0) i, (both p.1 q.1 i, (tt, (tt, tt)))))
     -- gate::is_free
     ∷ one (whole 1 gate.is_free.Kinds.ps gate.is_free.Kinds.r gate.is_free.Reads.Post)
     (λ κs (bytes, end). (is_free bytes.now, (tt, tt)))
     (λ κs input r left. alone)
     -- gate::read
-    ∷ one (whole 1 gate.read.Kinds.ps gate.read.Kinds.r gate.read.Reads.Post)
-    (λ κs (bytes, end). (read_of bytes.now, (tt, tt)))
-    (λ κs input r left. alone)
-    -- Read::given
-    ∷ one (whole 0 gate.answer.Read.given.Kinds.ps gate.answer.Read.given.Kinds.r gate.answer.Read.given.Reads.Post)
-    (λ κs (self, end). (given_of self, (tt, tt)))
+    ∷ by_parts (whole 1 gate.read.Kinds.ps gate.read.Kinds.r gate.read.Reads.Post)
+    (λ κs input r r' left left' p q i. (same_read r r' (both p q) i, (tt, tt)))
+    -- Given::from
+    ∷ one (whole 0 gate.answer.GivenFromResultOptionGateRefusal.from.Kinds.ps gate.answer.GivenFromResultOptionGateRefusal.from.Kinds.r gate.answer.GivenFromResultOptionGateRefusal.from.Reads.Post)
+    (λ κs (answer, end). (given_of (read_as answer), (tt, tt)))
     (λ κs input r left. alone)
     -- gate::shown_span
     ∷ one (whole 2 gate.shown_span.Kinds.ps gate.shown_span.Kinds.r gate.shown_span.Reads.Post)
@@ -284,9 +282,8 @@ operations =
     (λ κs (bytes, (standard, end)). (name_of bytes.now standard.now, (tt, (tt, tt))))
     (λ κs input r left. alone)
     -- sender::send
-    ∷ one (whole 2 sender.send.Kinds.ps sender.send.Kinds.r sender.send.Reads.Post)
-    (λ κs (part, (select, (number, (bytes, (events, end))))). (sent_of part select number bytes.now events.now, (tt, (tt, (tt, (tt, (sent_buffer part select number bytes.now events.now, tt)))))))
-    (λ κs input r left p i. (p.0 i, (tt, (tt, (tt, (tt, (p.1 i, tt)))))))
+    ∷ by_parts (whole 2 sender.send.Kinds.ps sender.send.Kinds.r sender.send.Reads.Post)
+    (λ κs input r r' left left' p q i. (same_sent r r' (both p.0 q.0) i, (tt, (tt, (tt, (tt, (both p.1 q.1 i, tt)))))))
     -- report::write_report
     ∷ one (whole 2 report.write_report.Kinds.ps report.write_report.Kinds.r report.write_report.Reads.Post)
     (λ κs (chip, (bytes, (page, end))). (length (report_of chip bytes.now), (tt, (tt, (report_of chip bytes.now ++ drop (length (report_of chip bytes.now)) page.now, tt)))))

@@ -11,6 +11,8 @@ use lib.IntN.{ℤ}
 use lib.ListN.{length, set, take, drop, length-append}
 use lib.Seq.{sets-eq, take_at}
 use Rattle.std.specs.Prelude.{Result, Ok, Err}
+use Rattle.std.specs.Result.{result_unwrap_or}
+use Rattle.refusals.specs.Refusals.{status_of}
 use Rattle.refusals.specs.declared.Refusal.{Refusal}
 use Rattle.refusals.proofs.Numbers.{same_refusal, never_0}
 use Rattle.parts.specs.Register.{has_register}
@@ -35,6 +37,16 @@ same_sent (Ok m) (Ok n) e = ap (λ (s : Sent). Ok s.count) e
 same_sent (Ok n) (Err why) e = absurd (never_0 why (sym (ap (λ (s : Sent). s.refusal) e)))
 same_sent (Err why) (Ok n) e = absurd (never_0 why (ap (λ (s : Sent). s.refusal) e))
 same_sent (Err a) (Err b) e = ap Err (same_refusal a b (ap (λ (s : Sent). s.refusal) e))
+
+-- their refusal is what a call is told by
+pub sent_refusal : (a : Result ℕ Refusal) → (sent_as a).refusal ≡ status_of a
+sent_refusal (Ok count) = refl
+sent_refusal (Err why) = refl
+
+-- and their count is what is sent, or 0
+pub sent_count : (a : Result ℕ Refusal) → (sent_as a).count ≡ result_unwrap_or a 0
+sent_count (Ok count) = refl
+sent_count (Err why) = refl
 
 -- what can be sent
 pub record Sendable (part select gate : ℕ) (bytes : List ℕ) (room : ℕ) : Type 0 where
