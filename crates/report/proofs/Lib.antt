@@ -1,2 +1,3 @@
+pub mod PageLaws
 pub mod ReportLaws
 pub mod TextLaws

@@ -6,7 +6,7 @@ use mathlib.Core.List.{List, [], ◌∷◌, ◌++◌}
 use native.Mathlib.Omega.{arith}
 use borrow.Author.Tests.{le-leb, lt-leb, leb-true, ne_eqb}
 use lib.Dec.{eqb, leb}
-use lib.ListN.{length, take, drop, length-append, length-replicate, length-take}
+use lib.ListN.{length, take, drop, length-append, length-replicate}
 use lib.Seq.{take_at}
 use Rattle.parts.specs.Sector.{erased}
 use Rattle.chip.specs.Chip.{chip_fits}
@@ -16,25 +16,11 @@ use Rattle.chip.proofs.EventLaws.{taken_so}
 use Rattle.trace.specs.Bytes.{event_of, all_events}
 use Rattle.trace.specs.Trace.{Ran, answers_of, run_refusal, run_answers, ran_of, unless}
 use Rattle.report.specs.Report.{answer_text, report_of}
-use Rattle.report.specs.Text.{put, numeral, heading, events_word, lines_from, count_text, refused_text}
-use Rattle.report.proofs.TextLaws.{put_append, put_start, numeral_short, lines_short, refused_length}
+use Rattle.report.specs.Text.{numeral, heading, events_word, lines_from, count_text, refused_text}
+use Rattle.report.proofs.TextLaws.{numeral_short, lines_short, refused_length}
 
--- heading, lines and count by their parts
+-- heading, lines and count by their length
 module _ (answers : List ℕ) (n : ℕ) (all : length answers ≡ n) where
-  pub answers_put :
-      (page : List ℕ)
-      → put (put (put (put page 0 heading) 11 (lines_from 0 answers)) (11 + length (lines_from 0 answers)) (numeral n))
-      (11 + length (lines_from 0 answers) + length (numeral n))
-      events_word
-      ≡ put page 0 (answer_text answers)
-  unfolding answer_text count_text
-  answers_put page =
-      let lines : List ℕ = lines_from 0 answers in
-      sym (put_append page 0 heading (lines ++ (numeral (length answers) ++ events_word))
-      ∙ put_append (put page 0 heading) 11 lines (numeral (length answers) ++ events_word)
-      ∙ put_append (put (put page 0 heading) 11 lines) (11 + length lines) (numeral (length answers)) events_word
-      ∙ ap (λ (k : ℕ). put (put (put (put page 0 heading) 11 lines) (11 + length lines) (numeral k)) (11 + length lines + length (numeral k)) events_word) all)
-
   pub answers_length : length (answer_text answers) ≡ 11 + length (lines_from 0 answers) + length (numeral n) + 8
   unfolding answer_text count_text
   answers_length =
@@ -42,20 +28,6 @@ module _ (answers : List ℕ) (n : ℕ) (all : length answers ≡ n) where
       let rest = length-append (lines_from 0 answers) (numeral (length answers) ++ events_word) in
       let same : length (numeral (length answers)) ≡ length (numeral n) = ap (λ (k : ℕ). length (numeral k)) all in
       omega (arith, length-append heading (lines_from 0 answers ++ (numeral (length answers) ++ events_word)))
-
-  -- the same with a name for each part on the way
-  pub answers_by :
-      (page : List ℕ) {p₁ p₂ p₃ p₄ : List ℕ} {a b k r : ℕ}
-      → a ≡ 11
-      → p₁ ≡ put page 0 heading
-      → b ≡ a + length (lines_from 0 answers)
-      → p₂ ≡ put p₁ a (lines_from 0 answers)
-      → k ≡ b + length (numeral n)
-      → p₃ ≡ put p₂ b (numeral n)
-      → r ≡ k + 8
-      → p₄ ≡ put p₃ k events_word
-      → (r ≡ length (answer_text answers)) × (p₄ ≡ put page 0 (answer_text answers))
-  answers_by page e₁ h₁ e₂ h₂ e₃ h₃ e₄ h₄ = (omega (arith, answers_length), cc (answers_put page))
 
 -- 11 bytes of heading, 7 for each of 4,096 lines, 4 and 8 for the count
 pub answers_room : (answers : List ℕ) → length answers ≤ 4096 → length (answer_text answers) ≤ 28695
@@ -110,58 +82,26 @@ report_ranged c bytes fits =
     ranged_by (leb (length bytes) 4096) (all_events bytes) (run_refusal c erased bytes 4096) (answer_text (answers_of bytes (world c erased)))
     (λ few. rw (taken_so c erased (length-replicate {A = ℕ} 0x4000 0xff) fits, le-leb (length bytes) 65536 (omega (arith, leb-true (length bytes) 4096 few)), few) refl)
 
--- what `write_report` says of its answer and the page
-abbrev pub Reported : Chip → List ℕ → List ℕ → ℕ → List ℕ → Type 0
-Reported c bytes page r after =
-    (r ≡ length (report_of c bytes)) × (after ≡ report_of c bytes ++ drop (length (report_of c bytes)) page)
-
--- a text that was put at the start of a page and is the report
-pub reported :
-    (c : Chip) (bytes text page : List ℕ) {r : ℕ} {after : List ℕ}
-    → text ≡ report_of c bytes
-    → length text ≤ length page
-    → r ≡ length text
-    → after ≡ put page 0 text
-    → Reported c bytes page r after
-reported c bytes text page same room long at = (
-  long ∙ ap (λ (l : List ℕ). length l) same,
-  at ∙ put_start page text room ∙ ap (λ (l : List ℕ). l ++ drop (length l) page) same,
-)
-
--- what was run on a erased array, and what was then put on a page
-module _ (c : Chip) (bytes old page : List ℕ) {xs : List ℕ} {answered : Ran} (few : length bytes ≤ 4096) (room : length old ≡ 4096)
-    (whole : length page ≡ 32768) (all : xs ≡ erased) (e : answered ≡ ran_of c xs bytes old) where
+-- what was run on an erased array
+module _ (c : Chip) (bytes old : List ℕ) {xs : List ℕ} {answered : Ran} (few : length bytes ≤ 4096) (room : length old ≡ 4096) (all : xs ≡ erased)
+    (e : answered ≡ ran_of c xs bytes old) where
   number : answered.refusal ≡ run_refusal c erased bytes 4096
   unfolding ran_of
   number = ap (λ (a : Ran). a.refusal) e ∙ ap₂ (λ (ys : List ℕ) (k : ℕ). run_refusal c ys bytes k) all room
 
   -- a trace that is run: the text of its answers
-  pub reported_ran :
-      {told after : List ℕ} {r : ℕ}
-      → answered.refusal ≡ 0
-      → told ≡ run_answers c xs bytes old
-      → r ≡ length (answer_text (take (length bytes) told))
-      → after ≡ put page 0 (answer_text (take (length bytes) told))
-      → Reported c bytes page r after
+  pub report_ran : {told : List ℕ} → answered.refusal ≡ 0 → told ≡ run_answers c xs bytes old → answer_text (take (length bytes) told) ≡ report_of c bytes
   unfolding report_of run_answers unless
-  reported_ran {told} zero said long at =
+  report_ran {told} zero said =
       let none : run_refusal c erased bytes 4096 ≡ 0 = sym number ∙ zero in
       let answers : take (length bytes) told ≡ answers_of bytes (world c erased) =
       ap (take (length bytes)) (said ∙ simp (all, room, none))
       ∙ take_at (answers_of bytes (world c erased)) (drop (length bytes) old) (length bytes) (answers_all bytes (world c erased)) in
-      let fits : length (answer_text (take (length bytes) told)) ≤ length page =
-      omega (arith, answers_room (take (length bytes) told) (simp length-take (omega arith))) in
-      reported c bytes (answer_text (take (length bytes) told)) page (simp (answers, none, le-leb _ _ few)) fits long at
+      simp (answers, none, le-leb _ _ few)
 
   -- one that is refused: its number alone
-  pub reported_refused :
-      {after : List ℕ} {r : ℕ}
-      → (answered.refusal ≡ 0 → ⊥)
-      → r ≡ length (refused_text answered.refusal)
-      → after ≡ put page 0 (refused_text answered.refusal)
-      → Reported c bytes page r after
+  pub report_refused : (answered.refusal ≡ 0 → ⊥) → refused_text answered.refusal ≡ report_of c bytes
   unfolding report_of
-  reported_refused left long at =
+  report_refused left =
       let some : run_refusal c erased bytes 4096 ≡ 0 → ⊥ = λ z. left (number ∙ z) in
-      let fits : length (refused_text answered.refusal) ≤ length page = omega (arith, refused_room answered.refusal) in
-      reported c bytes (refused_text answered.refusal) page (simp (number, ne_eqb _ _ some, le-leb _ _ few)) fits long at
+      simp (number, ne_eqb _ _ some, le-leb _ _ few)

@@ -2,14 +2,14 @@
 use Prim.Native.Nat.{ℕ, zero, suc, ◌+◌, ◌-◌, ◌*◌, ◌/◌, ◌≤◌, ◌<◌}
 use mathlib.Core.Bool.{Bool, true, false, cond}
 use mathlib.Core.Path.{◌≡◌, refl, sym, ap, ◌∙◌}
-use mathlib.Core.List.{List, [], ◌∷◌, ◌++◌}
+use mathlib.Core.List.{List, [], ◌∷◌, ◌++◌, append-nil, append_assoc}
 use native.Mathlib.Numerals.{add-one}
 use native.Mathlib.Omega.{arith}
-use borrow.Author.Tests.{lt-ltb}
+use borrow.Author.Tests.{lt-ltb, le-ltb}
 use borrow.Rule.Slice.PartMut.{put_mid}
 use lib.Dec.{eqb, ltb}
-use lib.ListN.{length, take, drop, set, get_or, length-append, length-drop, drop_of_length-le}
-use lib.Seq.{sets, sets-eq, take_all, drop-cons}
+use lib.ListN.{length, take, drop, set, get_or, length-append, length-drop}
+use lib.Seq.{sets, sets-eq, take_all}
 use Rattle.std.proofs.lemmas.Slice.{put_mid-paste}
 use Rattle.trace.specs.Bytes.{answer_note}
 use Rattle.report.specs.Text.{put, glyph, digits, width, numeral, note_line, event_line, lines_from, refused_word, refused_text}
@@ -35,10 +35,28 @@ put_start page s room =
     let none : 0 + length s ≡ length s = omega arith in
     put_sets page 0 s ∙ sets-eq s page 0 (omega arith) ∙ ap (λ (k : ℕ). s ++ drop k page) none
 
--- the numeral of one digit
-pub numeral_1 : (n : ℕ) → n < 10 → numeral n ≡ glyph n ∷ []
-unfolding numeral width digits
-numeral_1 n h = simp (lt-ltb _ _ h)
+-- numerals of one digit, two, three, four
+module _ (n : ℕ) where
+  pub numeral_1 : n < 10 → numeral n ≡ glyph n ∷ []
+  unfolding numeral width digits
+  numeral_1 h = simp (lt-ltb _ _ h)
+
+  pub numeral_2 : 10 ≤ n → n < 100 → numeral n ≡ glyph (n / 10) ∷ glyph n ∷ []
+  unfolding numeral width digits
+  numeral_2 l h = simp (le-ltb _ _ l, lt-ltb _ _ h)
+
+  pub numeral_3 : 100 ≤ n → n < 1000 → numeral n ≡ glyph (n / 10 / 10) ∷ glyph (n / 10) ∷ glyph n ∷ []
+  unfolding numeral width digits
+  numeral_3 l h =
+      let low : 10 ≤ n = omega arith in
+      simp (le-ltb _ _ low, le-ltb _ _ l, lt-ltb _ _ h)
+
+  pub numeral_4 : 1000 ≤ n → numeral n ≡ glyph (n / 10 / 10 / 10) ∷ glyph (n / 10 / 10) ∷ glyph (n / 10) ∷ glyph n ∷ []
+  unfolding numeral width digits
+  numeral_4 l =
+      let low : 10 ≤ n = omega arith in
+      let mid : 100 ≤ n = omega arith in
+      simp (le-ltb _ _ low, le-ltb _ _ mid, le-ltb _ _ l)
 
 -- a numeral has at most four digits
 digits_length : (k n : ℕ) → length (digits k n) ≡ k
@@ -102,25 +120,13 @@ put_copied page at n s t room long same =
     ∙ ap (λ (l : List ℕ). take at page ++ l ++ drop (at + length s) page) (take_all (length s) s (omega arith))
     ∙ sym whole
 
--- a line by its parts: how long it is, and how it is put
+-- a line by its parts: how long it is
 module _ (position note : ℕ) where
   pub line_length : length (note_line position note) ≡ length (numeral position) + (length (numeral note) + 2)
   unfolding note_line
   line_length =
       let tail : length (0x20 ∷ (numeral note ++ (0x0a ∷ []))) ≡ length (numeral note) + 2 = simp length-append (omega arith) in
       length-append (numeral position) (0x20 ∷ (numeral note ++ (0x0a ∷ []))) ∙ ap (λ (k : ℕ). length (numeral position) + k) tail
-
-  pub line_put :
-      (page : List ℕ) (at : ℕ)
-      → set (put (set (put page at (numeral position)) (at + length (numeral position)) 0x20) (at + length (numeral position) + 1) (numeral note))
-      (at + length (numeral position) + 1 + length (numeral note))
-      0x0a
-      ≡ put page at (note_line position note)
-  unfolding note_line put
-  line_put page at =
-      let space : ℕ = at + length (numeral position) in
-      sym (put_append page at (numeral position) (0x20 ∷ (numeral note ++ (0x0a ∷ [])))
-      ∙ put_append (set (put page at (numeral position)) space 0x20) (space + 1) (numeral note) (0x0a ∷ []))
 
   pub line_short : note < 10 → length (note_line position note) ≤ 7
   line_short h =
@@ -142,57 +148,31 @@ lines_short position [] = omega arith
 lines_short position (answer ∷ answers) =
     simp length-append (omega (arith, event_short position answer, lines_short (position + 1) answers))
 
--- a turn of the loop over answers, and its end
-module _ (answers : List ℕ) (i : ℕ) where
-  pub lines_here :
-      i < length answers
-      → lines_from i (drop i answers) ≡ event_line i (get_or answers i 0) ++ lines_from (i + 1) (drop (i + 1) answers)
-  unfolding lines_from
-  lines_here h = ap (lines_from i) (drop-cons answers i 0 h) ∙ rw add-one
+-- one answer more has its line behind those of the others
+lines_more :
+    (position : ℕ) (answers : List ℕ) (i : ℕ)
+    → i < length answers
+    → lines_from position (take (suc i) answers) ≡ lines_from position (take i answers) ++ event_line (position + i) (get_or answers i 0)
+unfolding lines_from
+lines_more position [] i h = absurd (omega arith)
+lines_more position (answer ∷ answers) zero h =
+    let here : position ≡ position + 0 = omega arith in
+    append-nil (event_line position answer) ∙ ap (λ (k : ℕ). event_line k answer) here
+lines_more position (answer ∷ answers) (suc i) h =
+    let further : position + 1 + i ≡ position + suc i = omega arith in
+    ap (λ (l : List ℕ). event_line position answer ++ l)
+    (lines_more (position + 1) answers i (omega arith) ∙ ap (λ (k : ℕ). lines_from (position + 1) (take i answers) ++ event_line k (get_or answers i 0)) further)
+    ∙ sym (append_assoc (event_line position answer) (lines_from (position + 1) (take i answers)) (event_line (position + suc i) (get_or answers i 0)))
 
-  pub lines_end : length answers ≤ i → lines_from i (drop i answers) ≡ []
-  unfolding lines_from
-  lines_end h = ap (lines_from i) (drop_of_length-le answers h)
+pub lines_again :
+    (answers : List ℕ) (i : ℕ)
+    → i < length answers
+    → lines_from 0 (take i answers) ++ event_line i (get_or answers i 0) ≡ lines_from 0 (take (i + 1) answers)
+lines_again answers i h =
+    let none : i ≡ 0 + i = omega arith in
+    ap (λ (k : ℕ). lines_from 0 (take i answers) ++ event_line k (get_or answers i 0)) none ∙ sym (lines_more 0 answers i h) ∙ rw add-one refl
 
--- before each turn: what is left, put where the loop stands, makes the whole, and no line so far took more than seven bytes
-pub record Going (answers page₀ : List ℕ) (at : ℕ) (page : List ℕ) (i end : ℕ) : Type 0 where
-  pub within : i ≤ length answers
-  pub room : end ≤ at + 7 * i
-  pub told : end + length (lines_from i (drop i answers)) ≡ at + length (lines_from 0 answers)
-  pub stands : put page end (lines_from i (drop i answers)) ≡ put page₀ at (lines_from 0 answers)
-
-module _ (answers page₀ : List ℕ) (at : ℕ) (page : List ℕ) (i end : ℕ) (g : Going answers page₀ at page i end) where
-  pub going_again :
-      i < length answers
-      → Going answers page₀ at (put page end (event_line i (get_or answers i 0))) (i + 1) (end + length (event_line i (get_or answers i 0)))
-  going_again h =
-      let line : List ℕ = event_line i (get_or answers i 0) in
-      let rest : List ℕ = lines_from (i + 1) (drop (i + 1) answers) in
-      let sum : end + length line + length rest ≡ end + (length line + length rest) = omega arith in
-      record {
-        within = omega arith;
-        room = omega (arith, g.room, event_short i (get_or answers i 0));
-        told =
-            sum
-            ∙ ap (λ (k : ℕ). end + k) (sym (length-append line rest) ∙ ap (λ (l : List ℕ). length l) (sym (lines_here answers i h)))
-            ∙ g.told;
-        stands = sym (put_append page end line rest) ∙ ap (put page end) (sym (lines_here answers i h)) ∙ g.stands;
-      }
-
-  pub going_ends : length answers ≤ i → (end ≡ at + length (lines_from 0 answers)) × (page ≡ put page₀ at (lines_from 0 answers))
-  unfolding put
-  going_ends h =
-      let none : end ≡ end + length (lines_from i (drop i answers)) = simp (lines_end answers i h) (omega arith) in
-      (none ∙ g.told, ap (put page end) (sym (lines_end answers i h)) ∙ g.stands)
-
--- a refusal by its parts
-pub refused_put :
-    (number : ℕ) (page : List ℕ)
-    → set (put (put page 0 refused_word) 8 (numeral number)) (8 + length (numeral number)) 0x0a ≡ put page 0 (refused_text number)
-unfolding refused_text put
-refused_put number page =
-    sym (put_append page 0 refused_word (numeral number ++ (0x0a ∷ [])) ∙ put_append (put page 0 refused_word) 8 (numeral number) (0x0a ∷ []))
-
+-- a refusal by its length
 pub refused_length : (number : ℕ) → length (refused_text number) ≡ 8 + length (numeral number) + 1
 unfolding refused_text
 refused_length number =
