@@ -3,12 +3,14 @@
 #![tactic(auto)]
 
 ghost use Rattle.std.specs.Prelude.{◌≡◌, ◌++◌, ◌+◌, ◌≤◌, ◌<◌, length, take, drop};
+ghost use Rattle.refusals.specs.Refusals.{number_of};
 ghost use Rattle.report.specs.Text.{put, glyph, width, numeral, event_line, lines_from, refused_text};
 ghost use Rattle.parts.specs.Sector.{erased};
 ghost use Rattle.report.specs.Report.{report_of, answer_text};
 ghost use Rattle.report.specs.Page.{Puts};
 
 use chip::chip::Chip;
+use refusals::Refusal;
 
 // The last decimal digit of a number.
 fn glyph(n: usize) -> u8
@@ -101,12 +103,13 @@ impl Page<'_> {
     }
 
     // Writes a refusal.
-    fn refused(&mut self, number: u8)
+    fn refused(&mut self, refusal: Refusal)
         requires { self.old.end ≡ 0 }
-        ensures { Puts self.old self.new (refused_text number) }
+        ensures { Puts self.old self.new (refused_text (number_of refusal)) }
     {
+        let digits = refusal.number() as usize;
         self.text(b"refused ");
-        self.number(number as usize);
+        self.number(digits);
         self.text(b"\n");
     }
 
@@ -115,17 +118,15 @@ impl Page<'_> {
         requires { self.old.end ≡ 0 }
         ensures { Puts self.old self.new (report_of chip trace.now) }
     {
-        if trace.len() <= 4096 {
-            let mut array = erased();
-            let mut answers = [0; 4096];
-            let ran = trace::run(chip, &mut array, trace, &mut answers);
-            if ran.refusal == 0 {
-                self.answers(&answers[..trace.len()]);
-            } else {
-                self.refused(ran.refusal);
-            }
-        } else {
-            self.refused(4);
+        if 4096 < trace.len() {
+            return self.refused(Refusal::TraceLength);
+        }
+        let mut run = chip;
+        let mut array = erased();
+        let mut answers = [0; 4096];
+        match trace::run(&mut run, &mut array, trace, &mut answers) {
+            Ok(()) => self.answers(&answers[..trace.len()]),
+            Err(refusal) => self.refused(refusal),
         }
     }
 }

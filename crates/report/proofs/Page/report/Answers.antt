@@ -1,20 +1,25 @@
 -- What is written is the report. Assumes nothing.
-use Rattle.std.proofs.Common.{ℕ, replicate}
+use Rattle.std.proofs.Common.{ℕ, replicate, ap, ◌∙◌, sym}
 use Rattle.std.proofs.Math.ListN.{length-replicate}
+use Rattle.refusals.specs.Refusals.{status_of}
+use Rattle.refusals.proofs.Numbers.{never_0}
+use Rattle.report.specs.Text.{refused_text}
 use Rattle.report.proofs.PageLaws.{puts_same}
 use Rattle.report.proofs.ReportLaws.{report_long, report_ran, report_refused}
 use Rattle.report.proofs.Page.report.Goals as goal
 
-pub returns-then-ran-eq0 : goal.returns-then-ran-eq0
-returns-then-ran-eq0 c =
-    let ran = c.run-ran.ensures in
+pub returns-in-Ok : goal.returns-in-Ok
+returns-in-Ok c =
+    let ran = c.run.ensures in
     puts_same c.answers.ensures
-    (report_ran c.args.chip c.args.trace.now (replicate 4096 0) c.if-trace-le4096.true (length-replicate {A = ℕ} 4096 0) c.erased-array.ensures ran.value c.if-ran-eq0.true ran.answers_after)
+    (report_ran c.args.chip c.args.trace.now (replicate 4096 0) c.if-trace-gt4096.false (length-replicate {A = ℕ} 4096 0) c.erased-array.ensures ran.value (ap status_of c.in-Ok.is) ran.answers_after)
 
-pub returns-else-ran-eq0 : goal.returns-else-ran-eq0
-returns-else-ran-eq0 c =
-    puts_same c.refused.ensures
-    (report_refused c.args.chip c.args.trace.now (replicate 4096 0) c.if-trace-le4096.true (length-replicate {A = ℕ} 4096 0) c.erased-array.ensures c.run-ran.ensures.value c.if-ran-eq0.false)
+pub returns-in-Err : goal.returns-in-Err
+returns-in-Err c =
+    let told = ap status_of c.in-Err.is in
+    puts_same c.refused-in-Err.ensures
+    (ap refused_text (sym told)
+    ∙ report_refused c.args.chip c.args.trace.now (replicate 4096 0) c.if-trace-gt4096.false (length-replicate {A = ℕ} 4096 0) c.erased-array.ensures c.run.ensures.value (λ z. never_0 c.in-Err.refusal (sym told ∙ z)))
 
-pub returns-else-trace-le4096 : goal.returns-else-trace-le4096
-returns-else-trace-le4096 c = puts_same c.refused-else-trace-le4096.ensures (report_long c.args.chip c.args.trace.now c.if-trace-le4096.false)
+pub returns-then-trace-gt4096 : goal.returns-then-trace-gt4096
+returns-then-trace-gt4096 c = puts_same c.refused.ensures (report_long c.args.chip c.args.trace.now c.if-trace-gt4096.true)
