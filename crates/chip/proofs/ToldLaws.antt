@@ -1,6 +1,7 @@
 -- What an answer of the code stands for has the whole answer: two that stand for one are one. Assumes nothing.
 use Rattle.std.specs.Prelude.{◌≡◌, Option, Result, Ok, Err}
-use Rattle.std.proofs.Common.{sym, ap}
+use Rattle.std.proofs.Common.{refl, sym, ap}
+use Rattle.refusals.specs.Refusals.{status_of}
 use Rattle.refusals.specs.declared.Refusal.{Refusal}
 use Rattle.refusals.proofs.Numbers.{same_refusal, never_0}
 use Rattle.parts.specs.Note.{note_or_0}
@@ -31,3 +32,8 @@ same_answer (Ok a) (Ok b) e =
 same_answer (Ok a) (Err r) e = absurd (never_0 r (sym (ap (λ (x : Answer). x.refusal) e)))
 same_answer (Err r) (Ok b) e = absurd (never_0 r (ap (λ (x : Answer). x.refusal) e))
 same_answer (Err r) (Err s) e = (ap Err (same_refusal r s (ap (λ (x : Answer). x.refusal) e)), ap (λ (x : Answer). x.chip) e)
+
+-- its refusal is the one that the answer tells, and its chip the one that was left
+pub answer_told : (a : Result Told Refusal) (c : Chip) → ((answer_as a c).refusal ≡ status_of a) × ((answer_as a c).chip ≡ c)
+answer_told (Ok a) c = (refl, refl)
+answer_told (Err r) c = (refl, refl)

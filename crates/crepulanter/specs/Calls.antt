@@ -9,8 +9,10 @@
 -- | `power_up_number` | the refusal of a power-up with any choices |
 -- | `pin_of` | a pin level |
 -- | `recover_number` | the refusal of a recovery |
+-- | `pulses_told` | the pulses that a recovery answers, 0 where it is refused |
 -- | `NewSays`, `EventSays`, `RunSays`, `PowerUpSays`, `RecoverSays` | the whole answer of each function |
-use Rattle.std.specs.Prelude.{ℕ, Bool, true, cond, not, ◌≡◌, List, eqb, length}
+use Rattle.std.specs.Prelude.{ℕ, Bool, true, cond, not, ◌≡◌, List, eqb, length, Result, Ok, Err}
+use Rattle.refusals.specs.declared.Refusal.{Refusal}
 use Rattle.chip.specs.Chip.{made, cut_array, power_up}
 use Rattle.chip.specs.Event.{refusal, next, next_array}
 use Rattle.recovery.specs.Recovery.{recovery_answer, recovery_array}
@@ -45,6 +47,11 @@ pin_of pin = not (eqb pin 0)
 -- K3, O2: recovery checks 1, 2
 unfoldable pub recover_number : List ℕ → List ℕ → ℕ → ℕ
 recover_number b xs pin = cond (bytes_fit b) (recovery_answer (pin_of pin) (chip_of b) xs).refusal (unfit xs)
+
+-- O9: none where it is refused
+abbrev pub pulses_told : Result ℕ Refusal → ℕ
+pulses_told (Ok pulses) = pulses
+pulses_told (Err refusal) = 0
 
 -- K4: a new chip, or the standard chip with 3
 pub record NewSays (part select : ℕ) (r : ℕ) (b' : List ℕ) : Type 0 where

@@ -1,8 +1,7 @@
 // The five functions of a chip.
 ghost use Rattle.std.specs.Prelude.{◌≡◌};
-ghost use Rattle.std.specs.Result.{unwrap_or};
 ghost use Rattle.refusals.specs.Refusals.{number_of, status_of};
-ghost use Rattle.crepulanter.specs.Calls.{unfit, NewSays, EventSays, RunSays, PowerUpSays, RecoverSays};
+ghost use Rattle.crepulanter.specs.Calls.{unfit, pulses_told, NewSays, EventSays, RunSays, PowerUpSays, RecoverSays};
 
 use chip::chip::Chip;
 use chip_bytes::{at, bytes_fit, pack, unpack};
@@ -82,11 +81,8 @@ pub extern "C" fn crep_event(
 }
 
 // A power-up of the chip of these bytes, which are what it leaves, or stay where it is refused.
-fn power_up_in(
-    state: &mut [u8; at::SIZE],
-    array: &mut [u8],
-    choices: u32,
-) -> Result<(), Refusal>
+#[tactic(auto, using(crate::proofs::Refusals::unfit_taken), unfolding(crate::specs::Calls::power_up_number, trace::specs::Trace::unless))]
+fn power_up_in(state: &mut [u8; at::SIZE], array: &mut [u8], choices: u32) -> Result<(), Refusal>
     ensures { PowerUpSays state.old array.old choices (status_of result) state.new array.new 1 }
 {
     if !bytes_fit(state) {
@@ -115,7 +111,7 @@ pub extern "C" fn crep_power_up(
 // Recovery of the chip of these bytes, which are what it leaves, or stay where it is refused.
 #[tactic(auto, using(crate::proofs::Refusals::unfit_taken), unfolding(crate::specs::Calls::recover_number, trace::specs::Trace::unless))]
 fn recover_in(state: &mut [u8; at::SIZE], array: &mut [u8], pin: u8) -> Result<u8, Refusal>
-    ensures { RecoverSays state.old array.old pin (status_of result) state.new array.new (unwrap_or result 0) }
+    ensures { RecoverSays state.old array.old pin (status_of result) state.new array.new (pulses_told result) }
 {
     if !bytes_fit(state) {
         return Err(unfit(&array[..]));

@@ -114,6 +114,7 @@ pub extern "C" fn crep_map_event(
 }
 
 // A power-up of the chip of these bytes, with the map kept; the bytes are what it leaves, or stay where it is refused.
+#[tactic(auto, using(crate::proofs::Refusals::unfit_map_taken), unfolding(crate::specs::Calls::power_up_number, trace::specs::Trace::unless))]
 fn power_up_in(
     state: &mut [u8; at::SIZE],
     array: &mut [u8],
