@@ -1,212 +1,182 @@
-// The desk: a chip, the protect pin, and what the order that is being read has so far.
-use crate::wires::Tape;
-use crate::{count, say, wires};
-use chip::chip::Chip;
-use chip::event::Answer;
-use chip::wire::Event;
+// The desk: a board, a tape, and what the order that is being read has so far.
+use crate::board::Board;
+use crate::say;
+use crate::tape::Tape;
 use std::io;
 
-// A chip's array, and one byte beside it.
-pub(crate) type Array = [u8; 16385];
-
-// A map of free sectors, and one byte beside it.
-pub(crate) type Map = [u8; 65];
-
+// What is being read: orders, a comment, or text that goes on the tape.
 #[derive(Clone, Copy)]
+enum Reading {
+    Orders,
+    Comment,
+    Text,
+}
+
+#[derive(Drop)]
 pub(crate) struct Desk {
-    pub chip: Chip,
-    pub pin: bool,
-    // the line after the last event, and after the last sixteen rises of the clock
-    pub line: bool,
-    pub heard: u16,
-    // what is being read: a number with its sign, a comment, or text that goes on the tape
-    pub value: u32,
-    pub number: bool,
-    pub minus: bool,
-    pub comment: bool,
-    pub text: bool,
-    // events stay on the tape; how many are on it
+    pub board: Board,
+    pub tape: Tape,
+    reading: Reading,
+    // the number in front of the next order, and whether a minus is
+    number: Option<u32>,
+    minus: bool,
+    // events stay on the tape
     pub recording: bool,
-    pub length: usize,
-    // how much of the array and of the answer buffer is lent
-    pub room: usize,
+    // how much of the answer buffer is lent
     pub space: usize,
-    // how much of the map is lent, and whether events go with it
-    pub span: usize,
-    pub keeping: bool,
     // the limits of the next record
     pub closed: i32,
     pub opened: i32,
 }
 
-// The desk as a script finds it.
-pub(crate) fn fresh() -> Desk {
-    Desk {
-        chip: Chip::standard(),
-        pin: false,
-        line: true,
-        heard: 0,
-        value: 0,
-        number: false,
-        minus: false,
-        comment: false,
-        text: false,
-        recording: false,
-        length: 0,
-        room: Chip::BYTES,
-        space: 65536,
-        span: 64,
-        keeping: false,
-        closed: 0,
-        opened: 0,
-    }
-}
-
-// The line after one event more, heard: samples with the clock high count.
-fn hear(desk: Desk, event: u8) -> Desk {
-    let mut d = desk;
-    if event % 2 == 0 {
-        return d;
-    }
-    if d.line {
-        d.heard = d.heard % 32768 * 2 + 1;
-        return d;
-    }
-    d.heard = d.heard % 32768 * 2;
-    d
-}
-
-// How much of the map goes with an event: nothing without it.
-pub(crate) fn along(d: Desk) -> usize {
-    if d.keeping { d.span } else { 0 }
-}
-
-// One event on the chip, with the map or without.
-fn answer(d: Desk, array: &mut [u8], map: &mut [u8], event: Event) -> Answer {
-    if d.keeping {
-        return map::event(d.chip, array, map, event);
-    }
-    d.chip.event(array, event)
-}
-
-// One event on what is lent: its refusal and its note are written where there is one.
-fn ran(
-    rt: &impl Print,
-    desk: Desk,
-    array: &mut [u8],
-    map: &mut [u8],
-    event: Event,
-) -> io::Result<Desk> {
-    let mut d = desk;
-    let room = d.room;
-    let span = along(d);
-    if room <= array.len() {
-        if span <= map.len() {
-            let answer = answer(d, &mut array[..room], &mut map[..span], event);
-            say::unless_none(rt, b'!', answer.refusal)?;
-            say::unless_none(rt, b'\'', answer.note)?;
-            let chip = answer.chip;
-            d.chip = chip;
-            d.line = answer.line;
-            return Ok(d);
+impl Desk {
+    // The desk as a script finds it.
+    pub(crate) fn new() -> Desk {
+        Desk {
+            board: Board::new(),
+            tape: Tape::new(),
+            reading: Reading::Orders,
+            number: None,
+            minus: false,
+            recording: false,
+            space: 65536,
+            closed: 0,
+            opened: 0,
         }
     }
-    Ok(d)
-}
 
-// One event byte, heard.
-fn heard(
-    rt: &impl Print,
-    d: Desk,
-    array: &mut Array,
-    map: &mut Map,
-    event: u8,
-) -> io::Result<Desk> {
-    let after = ran(rt, d, array, map, trace::event_of(event))?;
-    Ok(hear(after, event))
-}
-
-// A power-up with any choices, and the line after it.
-pub(crate) fn cut(
-    rt: &impl Print,
-    d: Desk,
-    array: &mut Array,
-    map: &mut Map,
-    choices: u32,
-) -> io::Result<Desk> {
-    let after = ran(rt, d, array, map, Event::PowerUp { choices: choices })?;
-    say::number(rt, b':', after.line as u64, 1)?;
-    Ok(after)
-}
-
-// The events of a tape from a position on.
-fn played(
-    rt: &impl Print,
-    desk: Desk,
-    array: &mut Array,
-    map: &mut Map,
-    tape: &[u8],
-    from: usize,
-) -> io::Result<Desk> {
-    let mut d = desk;
-    let mut i = from;
-    while i < tape.len() {
-        d = heard(rt, d, array, map, tape[i])?;
-        i = i + 1;
+    // The number that was read, 0 where there is none.
+    pub(crate) fn value(&self) -> u32 {
+        self.number.unwrap_or(0)
     }
-    Ok(d)
-}
 
-// An order's events, put on the tape up to a new end: they stay there, or the chip has them and the tape is as long as it was.
-pub(crate) fn moved(
-    rt: &impl Print,
-    desk: Desk,
-    array: &mut Array,
-    map: &mut Map,
-    tape: &[u8],
-    end: usize,
-) -> io::Result<Desk> {
-    let mut d = desk;
-    if d.recording {
-        d.length = end;
-        return Ok(d);
+    // The low byte of the number.
+    pub(crate) fn low_byte(&self) -> u8 {
+        (self.value() & 0xff) as u8
     }
-    if end <= tape.len() {
-        return played(rt, d, array, map, &tape[..end], d.length);
-    }
-    Ok(d)
-}
 
-// Sends a byte in nine clocks, let go in the ninth.
-pub(crate) fn sent(
-    rt: &impl Print,
-    d: Desk,
-    array: &mut Array,
-    map: &mut Map,
-    tape: &mut Tape,
-    byte: u8,
-) -> io::Result<Desk> {
-    let end = wires::nine(tape, d.length, d.pin, byte, true);
-    moved(rt, d, array, map, tape, end)
-}
-
-// Sends n bytes 01h, 02h, .. and writes how many of them were acknowledged.
-pub(crate) fn burst(
-    rt: &impl Print,
-    desk: Desk,
-    array: &mut Array,
-    map: &mut Map,
-    tape: &mut Tape,
-    n: u32,
-) -> io::Result<Desk> {
-    let mut d = desk;
-    let mut taken: u64 = 0;
-    let mut i: u32 = 0;
-    while i < n {
-        d = sent(rt, d, array, map, tape, (i % 255 + 1) as u8)?;
-        taken = count::one_more(taken, !d.line);
-        i = i + 1;
+    // The number without its low byte, as an address.
+    pub(crate) fn address(&self) -> usize {
+        (self.value() >> 8) as usize
     }
-    say::number(rt, b'+', taken, 2)?;
-    Ok(d)
+
+    // The low 24 bits of the number, with its sign.
+    pub(crate) fn signed(&self) -> i32 {
+        let size = (self.value() & 0xffffff) as i32;
+        if self.minus { -size } else { size }
+    }
+
+    // Puts events on the tape: they stay there, or the chip has them and the tape is as long as it was.
+    pub(crate) fn drive<F: FnOnce(&mut Tape)>(
+        &mut self,
+        rt: &impl Print,
+        events: F,
+    ) -> io::Result<()>
+        requires { F.IsAlwaysCallable events }
+    {
+        let from = self.tape.length;
+        events(&mut self.tape);
+        if self.recording {
+            return Ok(());
+        }
+        if let Some(added) = self.tape.bytes.get(from..self.tape.length) {
+            self.board.play(rt, added)?;
+        }
+        self.tape.length = from;
+        Ok(())
+    }
+
+    // Sends a byte in nine clocks, let go in the ninth.
+    fn send(&mut self, rt: &impl Print, byte: u8) -> io::Result<()> {
+        let pin = self.board.pin;
+        self.drive(rt, |tape| tape.nine(pin, byte, true))
+    }
+
+    // Sends n bytes 01h, 02h, .. and writes how many of them were acknowledged; the count after FFFFFh is 1.
+    pub(crate) fn burst(&mut self, rt: &impl Print, n: u32) -> io::Result<()> {
+        let mut taken: u32 = 0;
+        for i in 0..n {
+            self.send(rt, (i % 255 + 1) as u8)?;
+            if !self.board.line {
+                taken = taken % 0xfffff + 1;
+            }
+        }
+        say::number(rt, b'+', taken, 2)
+    }
+
+    // One digit more of the number.
+    fn digit(&mut self, digit: u8) {
+        self.number = Some(self.value() << 4 | u32::from(digit));
+    }
+
+    // A number that stands by itself is a byte to send; `+` says that it was acknowledged.
+    fn space(&mut self, rt: &impl Print) -> io::Result<()> {
+        if self.number.is_some() {
+            self.send(rt, self.low_byte())?;
+            if !self.recording {
+                say::letter(rt, if self.board.line { b'-' } else { b'+' })?;
+            }
+            self.clear();
+        }
+        Ok(())
+    }
+
+    // The number is used.
+    fn clear(&mut self) {
+        self.number = None;
+        self.minus = false;
+    }
+
+    // One byte of text, which goes on the tape, up to the quotation mark.
+    fn letter(&mut self, byte: u8) {
+        if byte == b'"' {
+            self.reading = Reading::Orders;
+        } else {
+            self.tape.push(byte);
+        }
+    }
+
+    // One byte of an order: a digit, a sign, what begins a comment or a text, or the letter itself.
+    fn order(&mut self, rt: &impl Print, byte: u8) -> io::Result<()> {
+        match byte {
+            b'#' => self.reading = Reading::Comment,
+            b'"' => {
+                self.reading = Reading::Text;
+                self.tape.length = 0;
+            }
+            b'-' => self.minus = true,
+            b'0'..=b'9' => self.digit(byte - b'0'),
+            b'A'..=b'F' => self.digit(byte - b'A' + 10),
+            _ => {
+                self.act(rt, byte)?;
+                self.clear();
+            }
+        }
+        Ok(())
+    }
+
+    // One byte of the script, written again; a byte that a space ends is sent before the space is written. A comment runs to the end
+    // of its line.
+    pub(crate) fn take(&mut self, rt: &impl Print, byte: u8) -> io::Result<()> {
+        match self.reading {
+            Reading::Orders if matches!(byte, b' ' | b'\n') => {
+                self.space(rt)?;
+                say::letter(rt, byte)
+            }
+            Reading::Orders => {
+                say::letter(rt, byte)?;
+                self.order(rt, byte)
+            }
+            Reading::Comment => {
+                if byte == b'\n' {
+                    self.reading = Reading::Orders;
+                }
+                say::letter(rt, byte)
+            }
+            Reading::Text => {
+                self.letter(byte);
+                say::letter(rt, byte)
+            }
+        }
+    }
 }

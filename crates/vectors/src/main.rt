@@ -3,6 +3,7 @@
 #![tactic(auto)]
 
 mod alter;
+mod board;
 mod count;
 mod desk;
 mod loads;
@@ -12,20 +13,17 @@ mod records;
 mod say;
 mod sending;
 mod tape;
+mod traces;
 mod wires;
 
+use desk::Desk;
 use std::io;
 
-// Every byte of a script, with an array of FFh, a map of 00h and a tape of samples with both wires high.
+// Every byte of a script, on a desk as a script finds it.
 fn play(rt: &impl Print, script: &[u8]) -> io::Result<()> {
-    let mut array = [0xffu8; 16385];
-    let mut map = [0u8; 65];
-    let mut tape = [3u8; 65537];
-    let mut d = desk::fresh();
-    let mut i: usize = 0;
-    while i < script.len() {
-        d = orders::took(rt, d, &mut array, &mut map, &mut tape, script[i])?;
-        i = i + 1;
+    let mut desk = Desk::new();
+    for byte in script {
+        desk.take(rt, *byte)?;
     }
     Ok(())
 }

@@ -20,64 +20,72 @@ pub(crate) fn flag(rt: &impl Print, on: bool, byte: u8) -> io::Result<()> {
 }
 
 // A number of so many digits.
-pub(crate) fn hex(rt: &impl Print, n: u64, digits: usize) -> io::Result<()> {
+fn hex(rt: &impl Print, n: u64, digits: usize) -> io::Result<()> {
     print!(rt; "{n:0digits$x}")
 }
 
 // A byte as two digits.
-pub(crate) fn byte(rt: &impl Print, b: u8) -> io::Result<()> {
-    hex(rt, b as u64, 2)
+pub(crate) fn byte(rt: &impl Print, byte: u8) -> io::Result<()> {
+    hex(rt, u64::from(byte), 2)
 }
 
 // A letter and a number of so many digits.
-pub(crate) fn number(rt: &impl Print, sign: u8, n: u64, digits: usize) -> io::Result<()> {
+pub(crate) fn number(
+    rt: &impl Print,
+    sign: u8,
+    n: impl Into<u64> + Drop,
+    digits: usize,
+) -> io::Result<()> {
     letter(rt, sign)?;
-    hex(rt, n, digits)
+    hex(rt, n.into(), digits)
 }
 
 // A letter and a number, nothing for 0.
-pub(crate) fn unless_none(rt: &impl Print, sign: u8, n: u8) -> io::Result<()> {
+fn unless_none(rt: &impl Print, sign: u8, n: u8) -> io::Result<()> {
     if n != 0 {
-        number(rt, sign, n as u64, 1)?;
+        number(rt, sign, n, 1)?;
     }
     Ok(())
 }
 
+// A refusal, where there is one.
+pub(crate) fn refusal(rt: &impl Print, refusal: u8) -> io::Result<()> {
+    unless_none(rt, b'!', refusal)
+}
+
+// A note, where there is one.
+pub(crate) fn note(rt: &impl Print, note: u8) -> io::Result<()> {
+    unless_none(rt, b'\'', note)
+}
+
+// `=` and the byte at one position, nothing but the sign where there is none.
+pub(crate) fn peek(rt: &impl Print, buffer: &[u8], at: usize) -> io::Result<()> {
+    letter(rt, b'=')?;
+    match buffer.get(at) {
+        Some(found) => byte(rt, *found),
+        None => Ok(()),
+    }
+}
+
 // A character of a name: itself where it is ASCII and prints, else, and for the backslash, a backslash and two digits.
-fn character(rt: &impl Print, b: u8) -> io::Result<()> {
-    if (0x20 <= b) & (b <= 0x7e) & (b != b'\\') {
-        letter(rt, b)
-    } else {
-        number(rt, b'\\', b as u64, 2)
+fn character(rt: &impl Print, byte: u8) -> io::Result<()> {
+    match byte {
+        b' '..=b'~' if byte != b'\\' => letter(rt, byte),
+        _ => number(rt, b'\\', byte, 2),
     }
 }
 
 // A name.
-pub(crate) fn name(rt: &impl Print, s: &[u8]) -> io::Result<()> {
-    let mut i: usize = 0;
-    while i < s.len() {
-        character(rt, s[i])?;
-        i = i + 1;
+pub(crate) fn name(rt: &impl Print, name: &[u8]) -> io::Result<()> {
+    for byte in name {
+        character(rt, *byte)?;
     }
     Ok(())
 }
 
-// A number without its sign.
-fn size(z: i32) -> u64 {
-    if z < 0 { (-1 - z) as u64 + 1 } else { z as u64 }
-}
-
 // A letter and a number with its sign, of four digits or more.
 pub(crate) fn signed(rt: &impl Print, sign: u8, z: i32) -> io::Result<()> {
-    if z < 0 {
-        letter(rt, sign)?;
-        number(rt, b'-', size(z), 4)
-    } else {
-        number(rt, sign, size(z), 4)
-    }
-}
-
-// A letter and a limit.
-pub(crate) fn limit(rt: &impl Print, sign: u8, z: i16) -> io::Result<()> {
-    signed(rt, sign, z as i32)
+    letter(rt, sign)?;
+    flag(rt, z < 0, b'-')?;
+    hex(rt, u64::from(z.unsigned_abs()), 4)
 }

@@ -3,32 +3,24 @@ use crate::desk::Desk;
 use crate::{count, say};
 use std::io;
 
-// Sends the record with part, select and gate number from the number read. The refusal, the count of events and the sum of the whole tape
-// are written; what was sent is then on the tape.
-pub(crate) fn send_record(
-    rt: &impl Print,
-    desk: Desk,
-    array: &[u8],
-    tape: &mut [u8],
-) -> io::Result<Desk> {
-    let mut d = desk;
-    let room = d.room;
-    let space = d.space;
-    if room <= array.len() {
-        if space <= tape.len() {
-            let part = (d.value / 16777216 % 256) as u8;
-            let select = (d.value / 65536 % 256) as u8;
-            let number = (d.value % 65536) as u16;
-            let sent = sender::send(part, select, number, &array[..room], &mut tape[..space]);
-            say::unless_none(rt, b'!', sent.refusal)?;
-            say::number(rt, b'=', sent.count as u64, 4)?;
-            say::number(rt, b',', count::sum(tape), 5)?;
-            if sent.refusal != 0 {
-                return Ok(d);
-            }
-            d.length = sent.count as usize;
-            return Ok(d);
+impl Desk {
+    // Sends the record with part, select and gate number from the number read. The refusal, the count of events and the sum of the whole
+    // tape are written; what was sent is then on the tape.
+    pub(crate) fn send_record(&mut self, rt: &impl Print) -> io::Result<()> {
+        let [part, select, high, low] = self.value().to_be_bytes();
+        let gate = u16::from_be_bytes([high, low]);
+        let Some(record) = self.board.array.get(..self.board.room) else {
+            return Ok(());
+        };
+        let Some(events) = self.tape.bytes.get_mut(..self.space) else {
+            return Ok(());
+        };
+        let sent = sender::send(part, select, gate, record, events);
+        if sent.refusal == 0 {
+            self.tape.length = usize::from(sent.count);
         }
+        say::refusal(rt, sent.refusal)?;
+        say::number(rt, b'=', sent.count, 4)?;
+        say::number(rt, b',', count::sum(&self.tape.bytes), 5)
     }
-    Ok(d)
 }
