@@ -115,7 +115,8 @@ impl Page<'_> {
         requires { self.old.end ≡ 0 }
         ensures { Puts self.old self.new (report_of chip trace.now) }
     {
-        if trace.len() <= 4096 {
+        let few = trace.len() <= 4096;
+        if few {
             let mut array = erased();
             let mut answers = [0; 4096];
             let ran = trace::run(chip, &mut array, trace, &mut answers);
