@@ -118,7 +118,8 @@ impl Page<'_> {
         requires { self.old.end ≡ 0 }
         ensures { Puts self.old self.new (report_of chip trace.now) }
     {
-        if 4096 < trace.len() {
+        let long = 4096 < trace.len();
+        if long {
             return self.refused(Refusal::TraceLength);
         }
         let mut run = chip;

@@ -13,9 +13,7 @@ pub number-requires-then-note-ne0 : goal.number-requires-then-note-ne0
 number-requires-then-note-ne0 c = (omega (arith, c.number.ensures.end, c.text.ensures.end, numeral_short c.args.position), omega arith)
 
 pub text-requires-then-note-ne0 : goal.text-requires-then-note-ne0
-text-requires-then-note-ne0 c =
-    let note = c.args.answer / 2 % 8 in
-    omega (arith, c.number.ensures.end, c.text.ensures.end, c.number-then-note-ne0.ensures.end, numeral_short c.args.position, numeral_short note)
+text-requires-then-note-ne0 c = omega (arith, c.number.ensures.end, c.text.ensures.end, c.number-then-note-ne0.ensures.end, numeral_short)
 
 pub returns-then-note-ne0 : goal.returns-then-note-ne0
 unfolding event_line note_line
