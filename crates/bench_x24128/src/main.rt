@@ -5,6 +5,6 @@ use chip::chip::Chip;
 use std::io;
 
 fn main(rt: HostRuntime) -> io::Result<()> {
-    let made = Chip::new(Chip::X24128, 0);
-    bench_io::run(&rt, made.chip)
+    let chip = Chip::new(Chip::X24128, 0).unwrap();
+    bench_io::run(&rt, chip)
 }

@@ -43,18 +43,17 @@ impl Board {
         let Some(array) = self.array.get_mut(..self.room) else {
             return Ok(());
         };
-        let answer = if self.keeping {
+        let told = if self.keeping {
             let Some(map) = self.map.get_mut(..self.span) else {
                 return Ok(());
             };
-            map::event(self.chip, array, map, event)
+            map::event(&mut self.chip, array, map, event)
         } else {
             self.chip.event(array, event)
         };
-        self.chip = answer.chip;
-        self.line = answer.line;
-        say::refusal(rt, answer.refusal)?;
-        say::note(rt, answer.note)
+        self.line = told.map_or(true, |answer| answer.line);
+        say::refused(rt, &told)?;
+        say::note(rt, told.ok().and_then(|answer| answer.note))
     }
 
     // One event byte, heard: samples with the clock high count.
@@ -83,11 +82,11 @@ impl Board {
     // A new chip, part in the high digit and select in the low one, and an array of FFh.
     pub(crate) fn renew(&mut self, rt: &impl Print, n: u8) -> io::Result<()> {
         let made = Chip::new(n / 16, n % 16);
-        self.chip = made.chip;
+        self.chip = made.unwrap_or(Chip::standard());
         self.array.fill(0xff);
         self.pin = false;
         self.room = Chip::BYTES;
-        say::refusal(rt, made.refusal)
+        say::refused(rt, &made)
     }
 
     // Recovery, with the pin as it stands.
@@ -95,10 +94,9 @@ impl Board {
         let Some(array) = self.array.get_mut(..self.room) else {
             return Ok(());
         };
-        let freed = recovery::recover(self.chip, array, self.pin);
-        self.chip = freed.chip;
-        say::refusal(rt, freed.refusal)?;
-        say::number(rt, b'=', freed.pulses, 2)
+        let freed = recovery::recover(&mut self.chip, array, self.pin);
+        say::refused(rt, &freed)?;
+        say::number(rt, b'=', freed.unwrap_or(0), 2)
     }
 
     // The register byte, the counter, and `m` for the mark, `b` for busy.

@@ -1,7 +1,6 @@
 // The orders on the map of free sectors: all of its bytes are counted and shown, the one beside those that are lent too.
 use crate::desk::Desk;
 use crate::{count, say};
-use map::finding::Found;
 use std::io;
 
 // How many bits of the map are set.
@@ -20,7 +19,7 @@ impl Desk {
         let Some(map) = board.map.get_mut(..board.span) else {
             return Ok(());
         };
-        say::refusal(rt, map::build(array, map))?;
+        say::refused(rt, &map::build(array, map))?;
         say::number(rt, b'=', bits(&board.map), 4)?;
         say::number(rt, b',', count::sum(&board.map), 4)
     }
@@ -30,10 +29,11 @@ impl Desk {
         let Some(map) = self.board.map.get(..self.board.span) else {
             return Ok(());
         };
-        match map::first_free(map) {
-            Found::Sector { number } => say::number(rt, b'=', number, 4),
-            Found::None => say::text(rt, b"=n"),
-            Found::Refused { number } => say::refusal(rt, number),
+        let found = map::first_free(map);
+        match found {
+            Ok(Some(number)) => say::number(rt, b'=', number, 4),
+            Ok(None) => say::text(rt, b"=n"),
+            Err(_) => say::refused(rt, &found),
         }
     }
 

@@ -1,12 +1,14 @@
 // The orders on records: the record is what is lent of the array, its label and the standard label are what is on the tape.
 use crate::desk::Desk;
 use crate::say;
+use gate::answer::Given;
 use std::io;
 
 // What reading gives: the refusal, both limits, the travel and the label's length, zeros where the record is not good.
 fn read(rt: &impl Print, record: &[u8]) -> io::Result<()> {
-    let given = gate::read(record).given();
-    say::refusal(rt, given.number)?;
+    let answer = gate::read(record);
+    say::refused(rt, &answer)?;
+    let given = Given::from(answer);
     say::signed(rt, b'=', i32::from(given.closed))?;
     say::signed(rt, b',', i32::from(given.opened))?;
     say::signed(rt, b',', given.travel)?;
@@ -35,12 +37,12 @@ impl Desk {
         };
         match order {
             b'W' => {
-                let refusal = gate::write(record, self.closed, self.opened, label);
-                say::refusal(rt, refusal)
+                let written = gate::write(record, self.closed, self.opened, label);
+                say::refused(rt, &written)
             }
             b'L' => {
-                let refusal = gate::set_limits(record, self.closed, self.opened);
-                say::refusal(rt, refusal)
+                let limited = gate::set_limits(record, self.closed, self.opened);
+                say::refused(rt, &limited)
             }
             b'R' => read(rt, record),
             b'N' => name(rt, record, label),

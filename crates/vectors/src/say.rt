@@ -1,4 +1,6 @@
 // What the vectors write on standard output: the script's own bytes, names, and numbers in hexadecimal, in small letters.
+use parts::note::{Note, note_number};
+use refusals::Refusal;
 use std::io;
 
 // Bytes as they are.
@@ -40,22 +42,20 @@ pub(crate) fn number(
     hex(rt, n.into(), digits)
 }
 
-// A letter and a number, nothing for 0.
-fn unless_none(rt: &impl Print, sign: u8, n: u8) -> io::Result<()> {
-    if n != 0 {
-        number(rt, sign, n, 1)?;
+// The number of a refusal, where there is one.
+pub(crate) fn refused<T>(rt: &impl Print, answer: &Result<T, Refusal>) -> io::Result<()> {
+    match answer {
+        Ok(_) => Ok(()),
+        Err(refusal) => number(rt, b'!', refusal.number(), 1),
     }
-    Ok(())
 }
 
-// A refusal, where there is one.
-pub(crate) fn refusal(rt: &impl Print, refusal: u8) -> io::Result<()> {
-    unless_none(rt, b'!', refusal)
-}
-
-// A note, where there is one.
-pub(crate) fn note(rt: &impl Print, note: u8) -> io::Result<()> {
-    unless_none(rt, b'\'', note)
+// The number of a note, where there is one.
+pub(crate) fn note(rt: &impl Print, note: Option<Note>) -> io::Result<()> {
+    match note_number(note) {
+        0 => Ok(()),
+        n => number(rt, b'\'', n, 1),
+    }
 }
 
 // `=` and the byte at one position, nothing but the sign where there is none.

@@ -16,11 +16,11 @@ impl Desk {
             return Ok(());
         };
         let sent = sender::send(part, select, gate, record, events);
-        if sent.refusal == 0 {
-            self.tape.length = usize::from(sent.count);
+        if let Ok(count) = sent {
+            self.tape.length = usize::from(count);
         }
-        say::refusal(rt, sent.refusal)?;
-        say::number(rt, b'=', sent.count, 4)?;
+        say::refused(rt, &sent)?;
+        say::number(rt, b'=', sent.unwrap_or(0), 4)?;
         say::number(rt, b',', count::sum(&self.tape.bytes), 5)
     }
 }

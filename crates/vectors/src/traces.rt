@@ -50,12 +50,11 @@ impl Desk {
             let Some(map) = board.map.get_mut(..board.span) else {
                 return Ok(());
             };
-            map::run(board.chip, array, map, tape, lent)
+            map::run(&mut board.chip, array, map, tape, lent)
         } else {
-            trace::run(board.chip, array, tape, lent)
+            trace::run(&mut board.chip, array, tape, lent)
         };
-        board.chip = ran.chip;
-        say::refusal(rt, ran.refusal)?;
+        say::refused(rt, &ran)?;
         told(rt, &answers)
     }
 }
