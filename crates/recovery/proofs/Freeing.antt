@@ -17,10 +17,9 @@ use Rattle.chip.specs.Chip.{pulls, with_transfer, with_levels}
 use Rattle.chip.specs.Event.{next, next_array, sampled, judged, reacted}
 use Rattle.chip.specs.Part.{marked}
 use Rattle.chip.specs.Run.{World, world, step}
-use Rattle.chip.specs.Transfer.{fall_in, byte_begun, byte_ended, next_byte}
+use Rattle.chip.specs.Transfer.{Moved, fall_in, byte_begun, byte_ended, next_byte}
 use Rattle.chip.specs.Wire.{sample, line_of, edge_of}
 use Rattle.chip.specs.declared.chip.Chip.{Chip}
-use Rattle.chip.specs.declared.chip.Moved.{Moved}
 use Rattle.chip.proofs.FitLaws.{Fits}
 use Rattle.chip.proofs.Posed.{posed}
 use Rattle.chip.proofs.StepLaws.{fall_by}

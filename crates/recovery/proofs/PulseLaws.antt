@@ -1,10 +1,14 @@
 -- The turns of the loop of pulses: pulse k ends it where the line is high, or is the tenth, or leads to the next. Assumes nothing.
-use Prim.Native.Nat.{ℕ, zero, suc, ◌+◌, ◌-◌, ◌<◌}
+use Prim.Native.Nat.{ℕ, zero, suc, ◌+◌, ◌-◌, ◌≤◌}
 use mathlib.Core.Bool.{Bool, true, false}
-use mathlib.Core.Path.{◌≡◌, refl, ◌∙◌}
+use mathlib.Core.Path.{◌≡◌, refl, ap, ◌∙◌}
 use mathlib.Core.List.{List, [], ◌∷◌}
 use native.Mathlib.Omega.{arith}
 use lib.ListN.{length}
+use Rattle.std.specs.Prelude.{Result, Ok, Err}
+use Rattle.std.specs.Result.{IsOk}
+use Rattle.refusals.specs.declared.Refusal.{Refusal}
+use Rattle.refusals.proofs.Numbers.{never_0}
 use Rattle.parts.proofs.CondLaws.{cond_by}
 use Rattle.parts.specs.Rows.{every, stepped}
 use Rattle.chip.specs.Event.{refusal}
@@ -13,10 +17,15 @@ use Rattle.chip.specs.Wire.{sample}
 use Rattle.chip.specs.declared.chip.Chip.{Chip}
 use Rattle.chip.proofs.RunLaws.{ran_taken}
 use Rattle.trace.specs.Bytes.{all_events}
-use Rattle.trace.specs.Trace.{after, ran_of, run_array}
+use Rattle.trace.specs.Trace.{Ran, after, ran_of, ran_as, run_array}
 use Rattle.trace.proofs.ByteLaws.{sample_event, sample_taken}
-use Rattle.trace.proofs.RunLaws.{run_whole}
-use Rattle.recovery.specs.Recovery.{Freed, pulse, pulsed, pulse_bytes, start_bytes}
+use Rattle.trace.proofs.RunLaws.{run_taken, run_whole}
+use Rattle.recovery.specs.Recovery.{Freed, pulse, pulsed, freed, pulse_bytes, start_bytes}
+
+-- with so many pulses left the one of number k comes next; with none left there were ten
+abbrev pub still : ℕ → ℕ → Bool → World → Freed
+still zero k pin w = record { world = w; pulses = 10 }
+still (suc left) k pin w = pulsed left k pin w
 
 module _ (pin : Bool) (w : World) where
   abbrev pub freed_at : ℕ → Freed
@@ -28,17 +37,24 @@ module _ (pin : Bool) (w : World) where
   pulsed_high zero k high = refl
   pulsed_high (suc left) k high = rw high
 
-  -- a pulse before the tenth that leaves it low leads to the next
-  pub pulsed_low : (k : ℕ) → k < 10 → (pulse pin w).chip.line ≡ false → pulsed (10 - k) k pin w ≡ pulsed (10 - (k + 1)) (k + 1) pin (pulse pin w)
-  unfolding pulsed
-  pulsed_low k h low =
-      let one : 10 - k ≡ suc (10 - (k + 1)) = omega arith in
-      rw (one, low)
+  pub still_high : (k : ℕ) → k ≤ 10 → (pulse pin w).chip.line ≡ true → still (11 - k) k pin w ≡ freed_at k
+  still_high k h high =
+      let one : 11 - k ≡ suc (10 - k) = omega arith in
+      rw one (pulsed_high (10 - k) k high)
 
-  -- the tenth is the last
-  pub pulsed_tenth : (k : ℕ) → k ≡ 10 → pulsed (10 - k) k pin w ≡ freed_at 10
+  -- a pulse that leaves it low leads to the next, or is the tenth
+  pulsed_low : (left k : ℕ) → k + left ≡ 10 → (pulse pin w).chip.line ≡ false → pulsed left k pin w ≡ still left (k + 1) pin (pulse pin w)
   unfolding pulsed
-  pulsed_tenth k tenth = rw tenth
+  pulsed_low zero k h low =
+      let tenth : k ≡ 10 = omega arith in
+      rw tenth
+  pulsed_low (suc left) k h low = rw low
+
+  pub still_low : (k : ℕ) → k ≤ 10 → (pulse pin w).chip.line ≡ false → still (11 - k) k pin w ≡ still (11 - (k + 1)) (k + 1) pin (pulse pin w)
+  still_low k h low =
+      let one : 11 - k ≡ suc (10 - k) = omega arith in
+      let rest : 11 - (k + 1) ≡ 10 - k = omega arith in
+      rw (one, rest) (pulsed_low (10 - k) k (omega arith) low)
 
 -- the event bytes of a pulse, and of the start, are event bytes and make the same world
 pub pulse_events : (pin : Bool) → all_events (pulse_bytes pin) ≡ true
@@ -57,15 +73,26 @@ pub start_trace : (pin : Bool) (w : World) → after (start_bytes pin) w ≡ ste
 unfolding after stepped
 start_trace pin w = rw (sample_event true false pin)
 
--- so a run of them does a pulse, and the start
+-- so a run of them is not refused, and does a pulse, and the start
 module _ (pin : Bool) (c : Chip) (xs old : List ℕ) (taken : refusal c xs ≡ 0) where
+  pub pulse_runs : length old ≡ 2 → (ran_of c xs (pulse_bytes pin) old).refusal ≡ 0
+  pulse_runs two = run_taken c xs (pulse_bytes pin) old taken (omega arith) (omega arith) (pulse_events pin)
+
   pub run_pulse : length old ≡ 2 → world (ran_of c xs (pulse_bytes pin) old).chip (run_array c xs (pulse_bytes pin) old) ≡ pulse pin (world c xs)
   run_pulse two =
       run_whole c xs (pulse_bytes pin) old taken (omega arith) (omega arith) (pulse_events pin) ∙ pulse_trace pin (world c xs)
 
+  pub start_runs : length old ≡ 1 → (ran_of c xs (start_bytes pin) old).refusal ≡ 0
+  start_runs one = run_taken c xs (start_bytes pin) old taken (omega arith) (omega arith) (start_events pin)
+
   pub run_start : length old ≡ 1 → world (ran_of c xs (start_bytes pin) old).chip (run_array c xs (start_bytes pin) old) ≡ step (sample true false pin) (world c xs)
   run_start one =
       run_whole c xs (start_bytes pin) old taken (omega arith) (omega arith) (start_events pin) ∙ start_trace pin (world c xs)
+
+-- a run that stands for one of number 0 is taken
+pub ran_ok : (told : Result (Unit {0}) Refusal) (c : Chip) (ran : Ran) → ran_as told c ≡ ran → ran.refusal ≡ 0 → IsOk told
+ran_ok (Ok _) c ran e z = refl
+ran_ok (Err why) c ran e z = absurd (never_0 why (ap (λ (r : Ran). r.refusal) e ∙ z))
 
 -- a world that is not refused stays so over a pulse, and over all of them
 pub pulse_taken : (pin : Bool) (w : World) → refusal w.chip w.array ≡ 0 → refusal (pulse pin w).chip (pulse pin w).array ≡ 0
@@ -79,3 +106,7 @@ pulsed_taken (suc left) k pin w taken =
     cond_by (λ (f : Freed). refusal f.world.chip f.world.array ≡ 0) (pulse pin w).chip.line _ _
     (λ high. pulse_taken pin w taken)
     (λ low. pulsed_taken left (k + 1) pin (pulse pin w) (pulse_taken pin w taken))
+
+-- so does a chip with its array that stands where they end
+pub freed_taken : (pin : Bool) (c d : Chip) (xs ys : List ℕ) → world d ys ≡ (freed pin (world c xs)).world → refusal c xs ≡ 0 → refusal d ys ≡ 0
+freed_taken pin c d xs ys e taken = ap (λ (w : World). refusal w.chip w.array) e ∙ pulsed_taken 9 1 pin (world c xs) taken

@@ -7,14 +7,17 @@
 -- | `Freed` | where the pulses ended, and the number of the last |
 -- | `pulsed left k pin w`, `freed pin w` | pulses from number k on, `left` more allowed after it; from the first, ten at most |
 -- | `recovered pin w` | after the pulses and the start |
+-- | `Recovered` | the number of a refusal or 0, the chip, and how many pulses |
+-- | `recovered_as told c` | what a recovery stands for that told this and left the chip c |
 -- | `recovery_answer`, `recovery_array` | what recovery answers, and the array at its exit |
-use Rattle.std.specs.Prelude.{ℕ, zero, suc, ◌+◌, Bool, true, false, cond, List, [], ◌∷◌, eqb}
+use Rattle.std.specs.Prelude.{ℕ, zero, suc, ◌+◌, Bool, true, false, cond, List, [], ◌∷◌, eqb, Result, Ok, Err}
+use Rattle.refusals.specs.Refusals.{number_of}
+use Rattle.refusals.specs.declared.Refusal.{Refusal}
 use Rattle.chip.specs.Event.{refusal}
 use Rattle.chip.specs.Run.{World, world, step}
 use Rattle.chip.specs.Wire.{sample}
 use Rattle.chip.specs.declared.chip.Chip.{Chip}
 use Rattle.trace.specs.Bytes.{sample_byte}
-use Rattle.recovery.specs.declared.Recovered.{Recovered}
 
 -- R2: the clock low, then high, the data line let go in both
 unfoldable pub pulse : Bool → World → World
@@ -46,6 +49,17 @@ freed pin w = pulsed 9 1 pin w
 -- R5, R7: then the clock stays high and the data line is pulled: a start, which a busy chip ignores
 unfoldable pub recovered : Bool → World → World
 recovered pin w = step (sample true false pin) (freed pin w).world
+
+-- R6, O9: the number of the refusal, or 0, the chip, and the number of the first pulse after which the line was high
+pub record Recovered : Type 0 where
+  pub refusal : ℕ
+  pub chip : Chip
+  pub pulses : ℕ
+
+-- O9: as a caller has it who lent the chip; a refusal stands for 0 pulses
+abbrev pub recovered_as : Result ℕ Refusal → Chip → Recovered
+recovered_as (Ok pulses) c = record { refusal = 0; chip = c; pulses = pulses }
+recovered_as (Err refusal) c = record { refusal = number_of refusal; chip = c; pulses = 0 }
 
 -- R1, R6, O2, O9: refused with 1 or 2: the chip as given, 0 pulses
 unfoldable pub recovery_answer : Bool → Chip → List ℕ → Recovered

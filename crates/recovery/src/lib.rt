@@ -4,26 +4,12 @@
 ghost use Rattle.std.specs.Prelude.{◌≡◌, true, false};
 ghost use Rattle.chip.specs.Event.{refusal};
 ghost use Rattle.chip.specs.Wire.{sample};
-ghost use Rattle.recovery.specs.Recovery.{pulse_bytes, start_bytes, pulse, freed, recovery_answer, recovery_array};
+ghost use Rattle.recovery.specs.Recovery.{pulse_bytes, start_bytes, pulse, freed, recovered_as, recovery_answer, recovery_array};
 ghost use Rattle.chip.specs.Run.{world, step};
 
 use chip::chip::Chip;
+use refusals::Refusal;
 use trace::{run, sample_byte};
-
-// What recovery answers: the refusal, the chip, and the number of the first pulse after which the line was high.
-#[derive(Clone, Copy)]
-pub struct Recovered {
-    pub refusal: u8,
-    pub chip: Chip,
-    pub pulses: u8,
-}
-
-// A chip after its pulses, and their number.
-#[derive(Clone, Copy)]
-struct Pulsed {
-    chip: Chip,
-    pulses: u8,
-}
 
 // The event bytes of one pulse: the clock low, then high, the data line let go.
 fn pulse_bytes(pin: bool) -> [u8; 2]
@@ -40,70 +26,43 @@ fn start_bytes(pin: bool) -> [u8; 1]
 }
 
 // One pulse.
-fn pulsed_once(chip: Chip, array: &mut [u8], pin: bool) -> Chip
-    requires { refusal chip array.old ≡ 0 }
-    ensures { world result array.new ≡ pulse pin (world chip array.old) }
+fn pulsed_once(chip: &mut Chip, array: &mut [u8], pin: bool)
+    requires { refusal chip.old array.old ≡ 0 }
+    ensures { world chip.new array.new ≡ pulse pin (world chip.old array.old) }
 {
-    let bytes = pulse_bytes(pin);
-    let mut told = [0u8; 2];
-    let ran = run(chip, array, &bytes, &mut told);
-    ran.chip
+    run(chip, array, &pulse_bytes(pin), &mut [0; 2]).unwrap()
 }
 
 // The start.
-fn start(chip: Chip, array: &mut [u8], pin: bool) -> Chip
-    requires { refusal chip array.old ≡ 0 }
-    ensures { world result array.new ≡ step (sample true false pin) (world chip array.old) }
+fn start(chip: &mut Chip, array: &mut [u8], pin: bool)
+    requires { refusal chip.old array.old ≡ 0 }
+    ensures { world chip.new array.new ≡ step (sample true false pin) (world chip.old array.old) }
 {
-    let bytes = start_bytes(pin);
-    let mut told = [0u8; 1];
-    let ran = run(chip, array, &bytes, &mut told);
-    ran.chip
+    run(chip, array, &start_bytes(pin), &mut [0; 1]).unwrap()
 }
 
-// Pulses until the line is high, at most ten.
-fn pulsed_free(chip: Chip, array: &mut [u8], pin: bool) -> Pulsed
-    requires { refusal chip array.old ≡ 0 }
-    ensures { (world result.chip array.new ≡ (freed pin (world chip array.old)).world) × (result.pulses ≡ (freed pin (world chip array.old)).pulses) }
+// Pulses until the line is high, at most ten, and answers how many.
+fn pulsed_free(chip: &mut Chip, array: &mut [u8], pin: bool) -> u8
+    requires { refusal chip.old array.old ≡ 0 }
+    ensures { (world chip.new array.new ≡ (freed pin (world chip.old array.old)).world) × (result ≡ (freed pin (world chip.old array.old)).pulses) }
 {
-    let mut c = chip;
-    let mut k: u8 = 1;
-    let pulses = loop {
-        c = pulsed_once(c, array, pin);
-        if c.line {
-            break k;
+    for k in 1..=10 {
+        pulsed_once(chip, array, pin);
+        if chip.line {
+            return k;
         }
-        if k == 10 {
-            break 10;
-        }
-        k = k + 1;
-    };
-    Pulsed {
-        chip: c,
-        pulses: pulses,
     }
+    10
 }
 
-// Frees the bus: pulses until the line is high, then a start. Refused with 1 or 2: the chip as given, 0 pulses.
-#[tactic(auto, unfolding(crate::specs::Recovery::recovered, crate::specs::Recovery::recovery_answer, crate::specs::Recovery::recovery_array))]
-pub fn recover(chip: Chip, array: &mut [u8], pin: bool) -> Recovered
-    ensures value { result ≡ recovery_answer pin chip array.old }
-    ensures array_after { array.new ≡ recovery_array pin chip array.old }
+// Frees the bus: pulses until the line is high, then a start, and answers how many pulses. Refused as `Chip::check` has it, chip and array stay as they were.
+#[tactic(auto, using(crate::proofs::PulseLaws::freed_taken), unfolding(crate::specs::Recovery::recovered, crate::specs::Recovery::recovery_answer, crate::specs::Recovery::recovery_array))]
+pub fn recover(chip: &mut Chip, array: &mut [u8], pin: bool) -> Result<u8, Refusal>
+    ensures value { recovered_as result chip.new ≡ recovery_answer pin chip.old array.old }
+    ensures array_after { array.new ≡ recovery_array pin chip.old array.old }
 {
-    let number = chip.refusal(&array[..]);
-    if number == 0 {
-        let free = pulsed_free(chip, array, pin);
-        let pulses = free.pulses;
-        let last = start(free.chip, array, pin);
-        return Recovered {
-            refusal: 0,
-            chip: last,
-            pulses: pulses,
-        };
-    }
-    Recovered {
-        refusal: number,
-        chip: chip,
-        pulses: 0,
-    }
+    chip.check(&array[..])?;
+    let pulses = pulsed_free(chip, array, pin);
+    start(chip, array, pin);
+    Ok(pulses)
 }

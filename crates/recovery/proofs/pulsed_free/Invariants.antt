@@ -1,15 +1,12 @@
--- Before pulse k the pulses still to come, 10 - k after it, lead where all ten lead.
-use Rattle.std.proofs.Common.{◌≡◌, ◌≤◌, ◌-◌}
+-- Before pulse k the pulses still to come, 11 - k of them, lead where all ten lead.
+use Rattle.std.proofs.Common.{◌≡◌, ◌-◌}
 use Rattle.chip.specs.Event.{refusal}
 use Rattle.chip.specs.Run.{world}
-use Rattle.recovery.specs.Recovery.{pulsed, freed}
+use Rattle.recovery.specs.Recovery.{freed}
+use Rattle.recovery.proofs.PulseLaws.{still}
 use Rattle.recovery.proofs.pulsed_free.Given as goal
 
-abbrev pub invariant-loop-c : goal.invariant-loop-c
-invariant-loop-c l =
-    (l.k ≤ 10)
-    × (pulsed (10 - l.k) l.k l.pin (world l.c l.array) ≡ freed l.pin (world l.fn.chip l.fn.array))
-    × (refusal l.c l.array ≡ 0)
-
-abbrev pub decreases-loop-c : goal.decreases-loop-c
-decreases-loop-c l = 10 - l.k
+abbrev pub invariant-loop-k : goal.invariant-loop-k
+invariant-loop-k l =
+    (still (11 - l.k) l.k l.pin (world l.chip l.array) ≡ freed l.pin (world l.fn.chip l.fn.array))
+    × (refusal l.chip l.array ≡ 0)
