@@ -1,13 +1,12 @@
 -- The turns of the loop of pulses: pulse k ends it where the line is high, or is the tenth, or leads to the next. Assumes nothing.
 use Prim.Native.Nat.{ℕ, zero, suc, ◌+◌, ◌-◌, ◌≤◌}
 use mathlib.Core.Bool.{Bool, true, false}
-use mathlib.Core.Path.{◌≡◌, refl, ap, ap₂, ◌∙◌}
+use mathlib.Core.Path.{◌≡◌, refl, ap, ◌∙◌}
 use mathlib.Core.List.{List, [], ◌∷◌}
 use native.Mathlib.Omega.{arith}
 use lib.ListN.{length}
 use Rattle.std.specs.Prelude.{Result, Ok, Err}
 use Rattle.std.specs.Result.{IsOk}
-use Rattle.refusals.specs.Refusals.{status_of}
 use Rattle.refusals.specs.declared.Refusal.{Refusal}
 use Rattle.refusals.proofs.Numbers.{never_0}
 use Rattle.parts.proofs.CondLaws.{cond_by}
@@ -33,7 +32,7 @@ module _ (pin : Bool) (w : World) where
   freed_at k = record { world = pulse pin w; pulses = k }
 
   -- a pulse that leaves the line high is the last, however many were left
-  pulsed_high : (left k : ℕ) → (pulse pin w).chip.line ≡ true → pulsed left k pin w ≡ freed_at k
+  pub pulsed_high : (left k : ℕ) → (pulse pin w).chip.line ≡ true → pulsed left k pin w ≡ freed_at k
   unfolding pulsed
   pulsed_high zero k high = refl
   pulsed_high (suc left) k high = rw high
@@ -74,47 +73,33 @@ pub start_trace : (pin : Bool) (w : World) → after (start_bytes pin) w ≡ ste
 unfolding after stepped
 start_trace pin w = rw (sample_event true false pin)
 
--- an answer whose number is 0 is no refusal
-status_ok : (told : Result (Unit {0}) Refusal) → status_of told ≡ 0 → IsOk told
-status_ok (Ok _) z = refl
-status_ok (Err why) z = absurd (never_0 why z)
+-- so a run of them is not refused, and does a pulse, and the start
+module _ (pin : Bool) (c : Chip) (xs old : List ℕ) (taken : refusal c xs ≡ 0) where
+  pub pulse_runs : length old ≡ 2 → (ran_of c xs (pulse_bytes pin) old).refusal ≡ 0
+  pulse_runs two = run_taken c xs (pulse_bytes pin) old taken (omega arith) (omega arith) (pulse_events pin)
 
--- a run of a few event bytes by a chip that is taken is not refused, and leaves what they leave
-module _ (c d : Chip) (xs ys bytes old : List ℕ) (told : Result (Unit {0}) Refusal) (taken : refusal c xs ≡ 0) (ran : ran_as told d ≡ ran_of c xs bytes old) where
-  brief_ok : length bytes ≤ 2 → length bytes ≤ length old → all_events bytes ≡ true → IsOk told
-  brief_ok few fits events = status_ok told (ap (λ (r : Ran). r.refusal) ran ∙ run_taken c xs bytes old taken (omega arith) fits events)
+  pub run_pulse : length old ≡ 2 → world (ran_of c xs (pulse_bytes pin) old).chip (run_array c xs (pulse_bytes pin) old) ≡ pulse pin (world c xs)
+  run_pulse two =
+      run_whole c xs (pulse_bytes pin) old taken (omega arith) (omega arith) (pulse_events pin) ∙ pulse_trace pin (world c xs)
 
-  brief_left : ys ≡ run_array c xs bytes old → length bytes ≤ 2 → length bytes ≤ length old → all_events bytes ≡ true → world d ys ≡ after bytes (world c xs)
-  brief_left array few fits events = ap₂ world (ap (λ (r : Ran). r.chip) ran) array ∙ run_whole c xs bytes old taken (omega arith) fits events
+  pub start_runs : length old ≡ 1 → (ran_of c xs (start_bytes pin) old).refusal ≡ 0
+  start_runs one = run_taken c xs (start_bytes pin) old taken (omega arith) (omega arith) (start_events pin)
 
-  -- so it does a pulse
-  module _ (pin : Bool) (is : bytes ≡ pulse_bytes pin) (two : length old ≡ 2) where
-    pub pulse_ok : IsOk told
-    pulse_ok = brief_ok (omega (arith, ap length is)) (omega (arith, ap length is)) (ap all_events is ∙ pulse_events pin)
+  pub run_start : length old ≡ 1 → world (ran_of c xs (start_bytes pin) old).chip (run_array c xs (start_bytes pin) old) ≡ step (sample true false pin) (world c xs)
+  run_start one =
+      run_whole c xs (start_bytes pin) old taken (omega arith) (omega arith) (start_events pin) ∙ start_trace pin (world c xs)
 
-    pub pulse_left : ys ≡ run_array c xs bytes old → world d ys ≡ pulse pin (world c xs)
-    pulse_left array =
-        brief_left array (omega (arith, ap length is)) (omega (arith, ap length is)) (ap all_events is ∙ pulse_events pin)
-        ∙ ap (λ (l : List ℕ). after l (world c xs)) is
-        ∙ pulse_trace pin (world c xs)
-
-  -- or the start
-  module _ (pin : Bool) (is : bytes ≡ start_bytes pin) (one : length old ≡ 1) where
-    pub start_ok : IsOk told
-    start_ok = brief_ok (omega (arith, ap length is)) (omega (arith, ap length is)) (ap all_events is ∙ start_events pin)
-
-    pub start_left : ys ≡ run_array c xs bytes old → world d ys ≡ step (sample true false pin) (world c xs)
-    start_left array =
-        brief_left array (omega (arith, ap length is)) (omega (arith, ap length is)) (ap all_events is ∙ start_events pin)
-        ∙ ap (λ (l : List ℕ). after l (world c xs)) is
-        ∙ start_trace pin (world c xs)
+-- a run that stands for one of number 0 is taken
+pub ran_ok : (told : Result (Unit {0}) Refusal) (c : Chip) (ran : Ran) → ran_as told c ≡ ran → ran.refusal ≡ 0 → IsOk told
+ran_ok (Ok _) c ran e z = refl
+ran_ok (Err why) c ran e z = absurd (never_0 why (ap (λ (r : Ran). r.refusal) e ∙ z))
 
 -- a world that is not refused stays so over a pulse, and over all of them
 pub pulse_taken : (pin : Bool) (w : World) → refusal w.chip w.array ≡ 0 → refusal (pulse pin w).chip (pulse pin w).array ≡ 0
 unfolding pulse stepped
 pulse_taken pin w taken = ran_taken (sample false true pin ∷ sample true true pin ∷ []) w taken
 
-pulsed_taken : (left k : ℕ) (pin : Bool) (w : World) → refusal w.chip w.array ≡ 0 → refusal (pulsed left k pin w).world.chip (pulsed left k pin w).world.array ≡ 0
+pub pulsed_taken : (left k : ℕ) (pin : Bool) (w : World) → refusal w.chip w.array ≡ 0 → refusal (pulsed left k pin w).world.chip (pulsed left k pin w).world.array ≡ 0
 unfolding pulsed
 pulsed_taken zero k pin w taken = pulse_taken pin w taken
 pulsed_taken (suc left) k pin w taken =
@@ -122,5 +107,6 @@ pulsed_taken (suc left) k pin w taken =
     (λ high. pulse_taken pin w taken)
     (λ low. pulsed_taken left (k + 1) pin (pulse pin w) (pulse_taken pin w taken))
 
+-- so does a chip with its array that stands where they end
 pub freed_taken : (pin : Bool) (c d : Chip) (xs ys : List ℕ) → world d ys ≡ (freed pin (world c xs)).world → refusal c xs ≡ 0 → refusal d ys ≡ 0
 freed_taken pin c d xs ys e taken = ap (λ (w : World). refusal w.chip w.array) e ∙ pulsed_taken 9 1 pin (world c xs) taken
