@@ -33,7 +33,16 @@ use Rattle.map.specs.Sectors.{build_refusal, built_of}
 use Rattle.map.proofs as map
 use Rattle.recovery.specs.Recovery.{recovery_answer, recovery_array}
 use Rattle.recovery.proofs as recovery
+use Rattle.refusals.specs.Refusals.{number_of}
+use Rattle.refusals.proofs as refusals
 use Rattle.refusals.proofs.Numbers.{same_status}
+use Rattle.parts.specs.Note.{note_or_0}
+use Rattle.parts.proofs.note
+use Rattle.parts.proofs.NoteLaws.{same_written}
+use Rattle.chip.proofs.ToldLaws.{same_moved, same_made, same_answer}
+use Rattle.trace.proofs.RunLaws.{same_ran}
+use Rattle.map.proofs.FindLaws.{same_found}
+use Rattle.recovery.proofs.ToldLaws.{same_recovered}
 use Rattle.gate.specs.Naming.{span_of, name_of}
 use Rattle.gate.specs.Reading.{is_free}
 use Rattle.gate.specs.Answer.{read_as, given_of}
@@ -92,8 +101,16 @@ shown_name =
 -- the public operations, crate by crate
 pub operations : List Operation
 operations =
+    -- Refusal::number
+    one (whole 0 refusals.Refusal.number.Kinds.ps refusals.Refusal.number.Kinds.r refusals.Refusal.number.Reads.Post)
+    (λ κs (self, end). (number_of self, (tt, tt)))
+    (λ κs input r left. alone)
+    -- parts::note::note_number
+    ∷ one (whole 0 note.note_number.Kinds.ps note.note_number.Kinds.r note.note_number.Reads.Post)
+    (λ κs (noted, end). (note_or_0 noted, (tt, tt)))
+    (λ κs input r left. alone)
     -- parts::phase::bit_of
-    one (whole 0 phase.bit_of.Kinds.ps phase.bit_of.Kinds.r phase.bit_of.Reads.Post)
+    ∷ one (whole 0 phase.bit_of.Kinds.ps phase.bit_of.Kinds.r phase.bit_of.Reads.Post)
     (λ κs (byte, (bit, end)). (bit_of byte bit, (tt, (tt, tt))))
     (λ κs input r left. alone)
     -- parts::phase::weigh
@@ -120,10 +137,9 @@ operations =
     ∷ one (whole 0 register.Register.byte.Kinds.ps register.Register.byte.Kinds.r register.Register.byte.Reads.Post)
     (λ κs (self, end). (register_byte self, (tt, tt)))
     (λ κs input r left. alone)
-    -- Register::written
-    ∷ one (whole 0 register.Register.written.Kinds.ps register.Register.written.Kinds.r register.Register.written.Reads.Post)
-    (λ κs (self, (byte, (pin, end))). (written self byte pin, (tt, (tt, (tt, tt)))))
-    (λ κs input r left. alone)
+    -- Register::write
+    ∷ by_parts (whole 1 register.Register.write.Kinds.ps register.Register.write.Kinds.r register.Register.write.Reads.Post)
+    (λ κs input r r' left left' p q i. let e = same_written (both p q) in (e.1 i, (e.0 i, (tt, (tt, tt)))))
     -- parts::register::has_register
     ∷ one (whole 0 register.has_register.Kinds.ps register.has_register.Kinds.r register.has_register.Reads.Post)
     (λ κs (part, end). (has_register part, (tt, tt)))
@@ -152,10 +168,10 @@ operations =
     ∷ one (whole 0 load.Load.full.Kinds.ps load.Load.full.Kinds.r load.Load.full.Reads.Post)
     (λ κs (byte, end). (full_of byte, (tt, tt)))
     (λ κs input r left. alone)
-    -- Load::with
-    ∷ one (whole 0 load.Load.with.Kinds.ps load.Load.with.Kinds.r load.Load.with.Reads.Post)
-    (λ κs (self, (at, (byte, end))). (loaded self at byte, (tt, (tt, (tt, tt)))))
-    (λ κs input r left. alone)
+    -- Load::add, which answers nothing and changes the load
+    ∷ one (whole 1 load.Load.add.Kinds.ps load.Load.add.Kinds.r load.Load.add.Reads.Post)
+    (λ κs (self, (at, (byte, end))). (tt, (loaded self.now at byte, (tt, (tt, tt)))))
+    (λ κs input r left p i. (tt, (p i, left.1)))
     -- Target::fits
     ∷ one (whole 0 wait.Target.fits.Kinds.ps wait.Target.fits.Kinds.r wait.Target.fits.Reads.Post)
     (λ κs (self, end). (target_fits self, (tt, tt)))
@@ -173,12 +189,12 @@ operations =
     (λ κs end. (no_wait, tt))
     (λ κs input r left. alone)
     -- Wait::of
-    ∷ one (whole 0 wait.Wait.of.Kinds.ps wait.Wait.of.Kinds.r wait.Wait.of.Reads.Post)
-    (λ κs (number, (load, end)). (wait_for number load, (tt, (tt, tt))))
+    ∷ one (whole 1 wait.Wait.of.Kinds.ps wait.Wait.of.Kinds.r wait.Wait.of.Reads.Post)
+    (λ κs (number, (load, end)). (wait_for number load.now, (tt, (tt, tt))))
     (λ κs input r left. alone)
     -- Wait::end, which answers nothing and stores in the array
-    ∷ one (whole 1 wait.Wait.end.Kinds.ps wait.Wait.end.Kinds.r wait.Wait.end.Reads.Post)
-    (λ κs (self, (array, (choices, end))). (tt, (tt, (end_array self choices array.now, (tt, tt)))))
+    ∷ one (whole 2 wait.Wait.end.Kinds.ps wait.Wait.end.Kinds.r wait.Wait.end.Reads.Post)
+    (λ κs (self, (array, (choices, end))). (tt, (tt, (end_array self.now choices array.now, (tt, tt)))))
     (λ κs input r left p i. (tt, (tt, (p i, left.1.1))))
     -- Register::taken
     ∷ one (whole 0 register.Register.taken.Kinds.ps register.Register.taken.Kinds.r register.Register.taken.Reads.Post)
@@ -189,29 +205,24 @@ operations =
     (λ κs end. (standard_chip, tt))
     (λ κs input r left. alone)
     -- Chip::new
-    ∷ one (whole 0 Chip.new.Kinds.ps Chip.new.Kinds.r Chip.new.Reads.Post)
-    (λ κs (part, (select, end)). (made part select, (tt, (tt, tt))))
-    (λ κs input r left. alone)
+    ∷ by_parts (whole 0 Chip.new.Kinds.ps Chip.new.Kinds.r Chip.new.Reads.Post)
+    (λ κs input r r' left left' p q i. (same_made r r' (both p q) i, (tt, (tt, tt))))
     -- Chip::with_spoil
     ∷ one (whole 0 Chip.with_spoil.Kinds.ps Chip.with_spoil.Kinds.r Chip.with_spoil.Reads.Post)
     (λ κs (self, (spoil, end)). (with_spoil self spoil, (tt, (tt, tt))))
     (λ κs input r left. alone)
     -- Chip::next
-    ∷ one (whole 1 Chip.next.Kinds.ps Chip.next.Kinds.r Chip.next.Reads.Post)
-    (λ κs (self, (array, (event, end))). (next event self array.now, (tt, (next_array event self array.now, (tt, tt)))))
-    (λ κs input r left. with_array)
-    -- Chip::refusal
-    ∷ one (whole 1 Chip.refusal.Kinds.ps Chip.refusal.Kinds.r Chip.refusal.Reads.Post)
-    (λ κs (self, (array, end)). (refusal self array.now, (tt, (tt, tt))))
-    (λ κs input r left. alone)
+    ∷ by_parts (whole 2 Chip.next.Kinds.ps Chip.next.Kinds.r Chip.next.Reads.Post)
+    (λ κs input r r' left left' p q i. let e = same_moved (both p.0 q.0) in (e.1 i, (e.0 i, (both p.1 q.1 i, (tt, tt)))))
+    -- Chip::check
+    ∷ by_parts (whole 2 Chip.check.Kinds.ps Chip.check.Kinds.r Chip.check.Reads.Post)
+    (λ κs input r r' left left' p q i. (same_status r r' (both p q) i, (tt, (tt, tt))))
     -- Chip::event
-    ∷ one (whole 1 Chip.event.Kinds.ps Chip.event.Kinds.r Chip.event.Reads.Post)
-    (λ κs (self, (array, (event, end))). (event_answer event self array.now, (tt, (event_array event self array.now, (tt, tt)))))
-    (λ κs input r left. with_array)
+    ∷ by_parts (whole 2 Chip.event.Kinds.ps Chip.event.Kinds.r Chip.event.Reads.Post)
+    (λ κs input r r' left left' p q i. let e = same_answer r r' (both p.0 q.0) in (e.0 i, (e.1 i, (both p.1 q.1 i, (tt, tt)))))
     -- Chip::power_up
-    ∷ one (whole 1 Chip.power_up.Kinds.ps Chip.power_up.Kinds.r Chip.power_up.Reads.Post)
-    (λ κs (self, (array, (choices, end))). (event_answer (PowerUp choices) self array.now, (tt, (event_array (PowerUp choices) self array.now, (tt, tt)))))
-    (λ κs input r left. with_array)
+    ∷ by_parts (whole 2 Chip.power_up.Kinds.ps Chip.power_up.Kinds.r Chip.power_up.Reads.Post)
+    (λ κs input r r' left left' p q i. let e = same_answer r r' (both p.0 q.0) in (e.0 i, (e.1 i, (both p.1 q.1 i, (tt, tt)))))
     -- trace::event_of
     ∷ one (whole 0 trace.event_of.Kinds.ps trace.event_of.Kinds.r trace.event_of.Reads.Post)
     (λ κs (byte, end). (event_of byte, (tt, tt)))
@@ -225,37 +236,29 @@ operations =
     (λ κs (line, (note, end)). (answer_byte line note, (tt, (tt, tt))))
     (λ κs input r left. alone)
     -- trace::run
-    ∷ one (whole 3 trace.run.Kinds.ps trace.run.Kinds.r trace.run.Reads.Post)
-    (λ κs (chip, (array, (bytes, (answers, end)))). (ran_of chip array.now bytes.now answers.now, (tt, (run_array chip array.now bytes.now answers.now, (tt, (run_answers chip array.now bytes.now answers.now, tt))))))
-    (λ κs input r left p i. (p.0 i, (tt, (p.1.0 i, (tt, (p.1.1 i, tt))))))
-    -- trace::run_refusal
-    ∷ one (whole 2 trace.run_refusal.Kinds.ps trace.run_refusal.Kinds.r trace.run_refusal.Reads.Post)
-    (λ κs (chip, (array, (bytes, (room, end)))). (run_refusal chip array.now bytes.now room, (tt, (tt, (tt, (tt, tt))))))
-    (λ κs input r left. alone)
+    ∷ by_parts (whole 4 trace.run.Kinds.ps trace.run.Kinds.r trace.run.Reads.Post)
+    (λ κs input r r' left left' p q i. let e = same_ran r r' (both p.0 q.0) in (e.0 i, (e.1 i, (both p.1.0 q.1.0 i, (tt, (both p.1.1 q.1.1 i, tt))))))
+    -- trace::check
+    ∷ by_parts (whole 3 trace.check.Kinds.ps trace.check.Kinds.r trace.check.Reads.Post)
+    (λ κs input r r' left left' p q i. (same_status r r' (both p q) i, (tt, (tt, (tt, (tt, tt))))))
     -- map::build
-    ∷ one (whole 2 map.build.Kinds.ps map.build.Kinds.r map.build.Reads.Post)
-    (λ κs (array, (m, end)). (build_refusal array.now m.now, (tt, (built_of array.now m.now, tt))))
-    (λ κs input r left. with_array)
+    ∷ by_parts (whole 2 map.build.Kinds.ps map.build.Kinds.r map.build.Reads.Post)
+    (λ κs input r r' left left' p q i. (same_status r r' (both p.0 q.0) i, (tt, (both p.1 q.1 i, tt))))
     -- map::first_free
-    ∷ one (whole 1 map.first_free.Kinds.ps map.first_free.Kinds.r map.first_free.Reads.Post)
-    (λ κs (m, end). (first_free m.now, (tt, tt)))
-    (λ κs input r left. alone)
+    ∷ by_parts (whole 1 map.first_free.Kinds.ps map.first_free.Kinds.r map.first_free.Reads.Post)
+    (λ κs input r r' left left' p q i. (same_found r r' (both p q) i, (tt, tt)))
     -- map::event
-    ∷ one (whole 2 map.event.Kinds.ps map.event.Kinds.r map.event.Reads.Post)
-    (λ κs (chip, (array, (m, (event, end)))). (answer_of event chip array.now m.now, (tt, (answer_array event chip array.now m.now, (answer_map event chip array.now m.now, (tt, tt))))))
-    (λ κs input r left p i. (p.0 i, (tt, (p.1.0 i, (p.1.1 i, (tt, tt))))))
+    ∷ by_parts (whole 3 map.event.Kinds.ps map.event.Kinds.r map.event.Reads.Post)
+    (λ κs input r r' left left' p q i. let e = same_answer r r' (both p.0 q.0) in (e.0 i, (e.1 i, (both p.1.0 q.1.0 i, (both p.1.1 q.1.1 i, (tt, tt))))))
     -- map::power_up
-    ∷ one (whole 2 map.power_up.Kinds.ps map.power_up.Kinds.r map.power_up.Reads.Post)
-    (λ κs (chip, (array, (m, (choices, end)))). (answer_of (PowerUp choices) chip array.now m.now, (tt, (answer_array (PowerUp choices) chip array.now m.now, (answer_map (PowerUp choices) chip array.now m.now, (tt, tt))))))
-    (λ κs input r left p i. (p.0 i, (tt, (p.1.0 i, (p.1.1 i, (tt, tt))))))
+    ∷ by_parts (whole 3 map.power_up.Kinds.ps map.power_up.Kinds.r map.power_up.Reads.Post)
+    (λ κs input r r' left left' p q i. let e = same_answer r r' (both p.0 q.0) in (e.0 i, (e.1 i, (both p.1.0 q.1.0 i, (both p.1.1 q.1.1 i, (tt, tt))))))
     -- map::run
-    ∷ one (whole 4 map.run.Kinds.ps map.run.Kinds.r map.run.Reads.Post)
-    (λ κs (chip, (array, (m, (bytes, (answers, end))))). (trace_ran chip array.now m.now bytes.now answers.now, (tt, (trace_array chip array.now m.now bytes.now answers.now, (trace_map chip array.now m.now bytes.now answers.now, (tt, (trace_answers chip array.now m.now bytes.now answers.now, tt)))))))
-    (λ κs input r left p i. (p.0 i, (tt, (p.1.0 i, (p.1.1.0 i, (tt, (p.1.1.1 i, tt)))))))
+    ∷ by_parts (whole 5 map.run.Kinds.ps map.run.Kinds.r map.run.Reads.Post)
+    (λ κs input r r' left left' p q i. let e = same_ran r r' (both p.0 q.0) in (e.0 i, (e.1 i, (both p.1.0 q.1.0 i, (both p.1.1.0 q.1.1.0 i, (tt, (both p.1.1.1 q.1.1.1 i, tt)))))))
     -- recovery::recover
-    ∷ one (whole 1 recovery.recover.Kinds.ps recovery.recover.Kinds.r recovery.recover.Reads.Post)
-    (λ κs (chip, (array, (pin, end))). (recovery_answer pin chip array.now, (tt, (recovery_array pin chip array.now, (tt, tt)))))
-    (λ κs input r left. with_array)
+    ∷ by_parts (whole 2 recovery.recover.Kinds.ps recovery.recover.Kinds.r recovery.recover.Reads.Post)
+    (λ κs input r r' left left' p q i. let e = same_recovered r r' (both p.0 q.0) in (e.0 i, (e.1 i, (both p.1 q.1 i, (tt, tt)))))
     -- gate::write
     ∷ by_parts (whole 2 gate.write.Kinds.ps gate.write.Kinds.r gate.write.Reads.Post)
     (λ κs input r r' left left' p q i. (same_status r r' (both p.0 q.0) i, (both p.1 q.1 i, (tt, (tt, (tt, tt))))))

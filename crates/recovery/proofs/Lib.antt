@@ -3,3 +3,4 @@ pub mod Keeping
 pub mod PulseLaws
 pub mod Recovering
 pub mod TenPulses
+pub mod ToldLaws
