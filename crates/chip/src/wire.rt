@@ -40,17 +40,11 @@ pub(crate) fn line_of(pulls: bool, sda: bool) -> bool
 pub(crate) fn edge_of(scl_before: bool, scl: bool, line_before: bool, line: bool) -> Edge
     ensures { result ≡ edge_of scl_before scl line_before line }
 {
-    if scl_before {
-        if scl {
-            if line_before {
-                if line { Edge::Quiet } else { Edge::Start }
-            } else {
-                if line { Edge::Stop } else { Edge::Quiet }
-            }
-        } else {
-            Edge::Fall
-        }
-    } else {
-        if scl { Edge::Rise } else { Edge::Quiet }
+    match (scl_before, scl, line_before, line) {
+        (true, true, true, false) => Edge::Start,
+        (true, true, false, true) => Edge::Stop,
+        (false, true, ..) => Edge::Rise,
+        (true, false, ..) => Edge::Fall,
+        _ => Edge::Quiet,
     }
 }

@@ -43,21 +43,12 @@ impl From<Result<Option<Gate>, Refusal>> for Given {
     // The values of the answer.
     fn from(answer: Result<Option<Gate>, Refusal>) -> Given {
         match answer {
-            Ok(
-                Some(
-                    Gate {
-                        closed,
-                        opened,
-                        travel,
-                        length,
-                    },
-                ),
-            ) => Given {
+            Ok(Some(gate)) => Given {
                 number: 0,
-                closed,
-                opened,
-                travel,
-                length,
+                closed: gate.closed,
+                opened: gate.opened,
+                travel: gate.travel,
+                length: gate.length,
             },
             Ok(None) => zeros(0),
             Err(refusal) => zeros(refusal.number()),
