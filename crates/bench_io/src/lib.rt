@@ -14,6 +14,7 @@ pub fn read_full<R: Read>(reader: &mut R, buffer: &mut [u8]) -> io::Result<usize
     ensures bytes { IfOk result (λ n. Consumes (R.remaining reader.old) (R.remaining reader.new) (take n buffer.new)) }
     ensures all { IfOk result (λ n. n < length buffer.new → IsAtEnd (R.remaining reader.new)) }
 {
+    // Not a count: each turn reads as much as comes.
     let mut n: usize = 0;
     while n < buffer.len() {
         let came = reader.read(&mut buffer[n..])?;

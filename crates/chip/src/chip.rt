@@ -14,7 +14,7 @@ use refusals::Refusal;
 
 #[derive(Clone, Copy)]
 pub struct Chip {
-    // Chip::X24128, Chip::X24F128 or Chip::X24F129
+    // Chip::X24128, Chip::X24F128 or Chip::X24F129; a number and no enum, since a chip with another one is refused by `check` and answers all else
     pub part: u8,
     // 0-7
     pub select: u8,

@@ -40,12 +40,6 @@ part_row n at b h =
     let count : at + n - at ≡ n = omega arith in
     ap (λ (k : ℕ). take k (drop at b)) count ∙ sym (row_part n at b h)
 
--- the test of every one is std's
-pub every_list_all : {A : Type 0} (test : A → Bool) (row : List A) → list_all test row ≡ every test row
-unfolding every
-every_list_all test [] = refl
-every_list_all test (x ∷ row) = ap (λ (rest : Bool). test x && rest) (every_list_all test row)
-
 -- a row that has at each place what h makes of another's is the other, mapped
 pub mapped :
     {A B : Type 0} (h : A → B) (xs : List A) (ys : List B) (d : A)

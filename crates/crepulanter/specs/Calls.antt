@@ -4,6 +4,7 @@
 -- | Name | Meaning |
 -- |---|---|
 -- | `unfit` | the refusal of bytes that no chip has |
+-- | `Loads b number told` | the chip of these bytes, or where no chip has them a refusal of this number |
 -- | `checked`, `event_refusal` | the refusal of one event, given that of its chip and array, and by the bytes |
 -- | `run_number` | the refusal of a trace |
 -- | `power_up_number` | the refusal of a power-up with any choices |
@@ -11,8 +12,10 @@
 -- | `recover_number` | the refusal of a recovery |
 -- | `pulses_told` | the pulses that a recovery answers, 0 where it is refused |
 -- | `NewSays`, `EventSays`, `RunSays`, `PowerUpSays`, `RecoverSays` | the whole answer of each function |
-use Rattle.std.specs.Prelude.{ℕ, Bool, true, cond, not, ◌≡◌, List, eqb, length, Result, Ok, Err}
+use Rattle.std.specs.Prelude.{ℕ, Bool, true, false, cond, not, ◌≡◌, List, eqb, length, Result, Ok, Err}
+use Rattle.refusals.specs.Refusals.{number_of}
 use Rattle.refusals.specs.declared.Refusal.{Refusal}
+use Rattle.chip.specs.declared.chip.Chip.{Chip}
 use Rattle.chip.specs.Chip.{made, cut_array, power_up}
 use Rattle.chip.specs.Event.{refusal, next, next_array}
 use Rattle.recovery.specs.Recovery.{recovery_answer, recovery_array}
@@ -23,6 +26,11 @@ use Rattle.chip_bytes.specs.State.{bytes_fit, chip_of, bytes_of}
 -- K3: a phase above 11, a kind of what waits above 2 or a flag that is neither 0 nor 1 is refusal 2, after 1
 unfoldable pub unfit : List ℕ → ℕ
 unfit xs = cond (eqb (length xs) 0x4000) 2 1
+
+-- K3: the chip that they stand for, or the refusal
+abbrev pub Loads : List ℕ → ℕ → Result Chip Refusal → Type 0
+Loads b number (Ok chip) = (bytes_fit b ≡ true) × (chip ≡ chip_of b)
+Loads b number (Err refusal) = (bytes_fit b ≡ false) × (number_of refusal ≡ number)
 
 -- O8: one event checks 1, 2 and then 6
 abbrev pub checked : ℕ → ℕ → ℕ

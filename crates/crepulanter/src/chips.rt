@@ -1,7 +1,7 @@
 // The five functions of a chip.
 ghost use Rattle.std.specs.Prelude.{◌≡◌};
-ghost use Rattle.refusals.specs.Refusals.{number_of, status_of};
-ghost use Rattle.crepulanter.specs.Calls.{unfit, pulses_told, NewSays, EventSays, RunSays, PowerUpSays, RecoverSays};
+ghost use Rattle.refusals.specs.Refusals.{status_of};
+ghost use Rattle.crepulanter.specs.Calls.{unfit, Loads, pulses_told, NewSays, EventSays, RunSays, PowerUpSays, RecoverSays};
 
 use chip::chip::Chip;
 use chip_bytes::{at, bytes_fit, pack, unpack};
@@ -9,15 +9,18 @@ use recovery::recover;
 use refusals::{Refusal, status};
 use trace::run;
 
-// How bytes are refused that no chip has: first for the array's length, where it is wrong too.
+// The chip of these bytes. Where no chip has them, they are refused: first for the array's length, if it is wrong too.
 #[tactic(auto, unfolding(crate::specs::Calls::unfit))]
-fn unfit(array: &[u8]) -> Refusal
-    ensures { number_of result ≡ unfit array.now }
+fn load(state: &[u8; at::SIZE], array: &[u8]) -> Result<Chip, Refusal>
+    ensures { Loads state.now (unfit array.now) result }
 {
-    if array.len() == Chip::BYTES {
-        return Refusal::ChipRange;
+    if bytes_fit(state) {
+        return Ok(unpack(state));
     }
-    Refusal::ArrayLength
+    if array.len() == Chip::BYTES {
+        return Err(Refusal::ChipRange);
+    }
+    Err(Refusal::ArrayLength)
 }
 
 // Makes a new chip; refused with 3, the standard chip.
@@ -41,10 +44,7 @@ fn run_in(
 ) -> Result<(), Refusal>
     ensures { RunSays state.old array.old trace.now answers.old (status_of result) state.new array.new answers.new }
 {
-    if !bytes_fit(state) {
-        return Err(unfit(&array[..]));
-    }
-    let mut chip = unpack(state);
+    let mut chip = load(state, &array[..])?;
     run(&mut chip, array, trace, answers)?;
     *state = pack(&chip);
     Ok(())
@@ -85,10 +85,7 @@ pub extern "C" fn crep_event(
 fn power_up_in(state: &mut [u8; at::SIZE], array: &mut [u8], choices: u32) -> Result<(), Refusal>
     ensures { PowerUpSays state.old array.old choices (status_of result) state.new array.new 1 }
 {
-    if !bytes_fit(state) {
-        return Err(unfit(&array[..]));
-    }
-    let mut chip = unpack(state);
+    let mut chip = load(state, &array[..])?;
     chip.power_up(array, choices)?;
     *state = pack(&chip);
     Ok(())
@@ -113,10 +110,7 @@ pub extern "C" fn crep_power_up(
 fn recover_in(state: &mut [u8; at::SIZE], array: &mut [u8], pin: u8) -> Result<u8, Refusal>
     ensures { RecoverSays state.old array.old pin (status_of result) state.new array.new (pulses_told result) }
 {
-    if !bytes_fit(state) {
-        return Err(unfit(&array[..]));
-    }
-    let mut chip = unpack(state);
+    let mut chip = load(state, &array[..])?;
     let pulses = recover(&mut chip, array, pin != 0)?;
     *state = pack(&chip);
     Ok(pulses)

@@ -1,9 +1,9 @@
 // The five functions with a map.
 ghost use Rattle.std.specs.Prelude.{◌≡◌};
-ghost use Rattle.refusals.specs.Refusals.{number_of, status_of};
+ghost use Rattle.refusals.specs.Refusals.{status_of};
 ghost use Rattle.map.specs.Finding.{found_as};
 ghost use Rattle.map.specs.Sectors.{with_map, build_refusal, built_of};
-ghost use Rattle.crepulanter.specs.Calls.{unfit};
+ghost use Rattle.crepulanter.specs.Calls.{unfit, Loads};
 ghost use Rattle.crepulanter.specs.Maps.{sector_number, FirstSays, MapEventSays, MapRunSays, MapPowerUpSays};
 
 use chip::chip::Chip;
@@ -17,18 +17,21 @@ const BYTES: usize = 64;
 // What C is told where no sector is found: one past the last.
 const NONE: u16 = 512;
 
-// How bytes are refused that no chip has, with a map beside them: first for the array's length, then for the map's, where they are wrong too.
+// The chip of these bytes. Where no chip has them, they are refused: first for the array's length, then for the map's, if they are wrong too.
 #[tactic(auto, unfolding(crate::specs::Calls::unfit, map::specs::Sectors::with_map))]
-fn unfit_with_map(array: &[u8], map: &[u8]) -> Refusal
-    ensures { number_of result ≡ with_map (unfit array.now) map.now }
+fn load(state: &[u8; at::SIZE], array: &[u8], map: &[u8]) -> Result<Chip, Refusal>
+    ensures { Loads state.now (with_map (unfit array.now) map.now) result }
 {
+    if bytes_fit(state) {
+        return Ok(unpack(state));
+    }
     if array.len() != Chip::BYTES {
-        return Refusal::ArrayLength;
+        return Err(Refusal::ArrayLength);
     }
     if map.len() != BYTES {
-        return Refusal::MapLength;
+        return Err(Refusal::MapLength);
     }
-    Refusal::ChipRange
+    Err(Refusal::ChipRange)
 }
 
 // The sector found, or 512.
@@ -71,10 +74,7 @@ fn run_in(
 ) -> Result<(), Refusal>
     ensures { MapRunSays state.old array.old map.old trace.now answers.old (status_of result) state.new array.new map.new answers.new }
 {
-    if !bytes_fit(state) {
-        return Err(unfit_with_map(&array[..], &map[..]));
-    }
-    let mut chip = unpack(state);
+    let mut chip = load(state, &array[..], &map[..])?;
     run(&mut chip, array, map, trace, answers)?;
     *state = pack(&chip);
     Ok(())
@@ -123,10 +123,7 @@ fn power_up_in(
 ) -> Result<(), Refusal>
     ensures { MapPowerUpSays state.old array.old map.old choices (status_of result) state.new array.new map.new 1 }
 {
-    if !bytes_fit(state) {
-        return Err(unfit_with_map(&array[..], &map[..]));
-    }
-    let mut chip = unpack(state);
+    let mut chip = load(state, &array[..], &map[..])?;
     power_up(&mut chip, array, map, choices)?;
     *state = pack(&chip);
     Ok(())

@@ -14,7 +14,7 @@ pub struct Gate {
     pub length: usize,
 }
 
-// The values of an answer of reading: the number of the refusal, or 0; and what a good record holds, or zeros.
+// The values of an answer of reading, as C is given them: the number of the refusal, or 0; and what a good record holds, or zeros.
 #[derive(Clone, Copy)]
 pub struct Given {
     pub number: u8,
@@ -56,7 +56,7 @@ impl From<Result<Option<Gate>, Refusal>> for Given {
     }
 }
 
-// The span of the name shown.
+// The span of the name shown, in the three values that C is given.
 #[derive(Clone, Copy)]
 pub struct Shown {
     // True in the record, false in the standard label.

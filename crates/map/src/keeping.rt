@@ -71,7 +71,7 @@ pub fn event(
     })
 }
 
-// A power-up with any choices, with the map kept. Refused as an event is.
+// A power-up with any choices, with the map kept. Refused as an event is. It does not call `event`, for the sake of speed, as `Chip::power_up`.
 #[tactic(auto, using(crate::proofs::KeepLaws::with_taken, crate::proofs::KeepLaws::event_taken), unfolding(crate::specs::Keeping::answer_refusal, crate::specs::Keeping::answer_of, crate::specs::Keeping::answer_array, crate::specs::Keeping::answer_map, crate::specs::Keeping::kept, chip::specs::Run::step, trace::specs::Trace::unless))]
 pub fn power_up(
     chip: &mut Chip,

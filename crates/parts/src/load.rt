@@ -7,7 +7,7 @@ ghost use Rattle.parts.specs.Load.{no_load, full_of, loaded};
 pub struct Load {
     // by place of the sector; 0 where none is loaded
     pub bytes: [u8; 32],
-    // which of the 32 places are loaded
+    // which of the 32 places are loaded; a row of its own, as in a `Wait`
     pub places: [bool; 32],
     // how many bytes came, 0-33
     pub count: u8,

@@ -20,7 +20,7 @@ pub struct Register {
     pub pel: bool,
 }
 
-// Whether the part has a register: all but the X24F129, part 2.
+// Whether the part has a register: all but the X24F129, part 2. Here as everywhere a part is any number, as `Chip` may carry it.
 pub fn has_register(part: u8) -> bool
     ensures { result ≡ has_register part }
 {

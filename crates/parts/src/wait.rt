@@ -14,6 +14,7 @@ pub const NO_PLACE: u32 = 0x00000000;
 // The choices that take places 0 to 15.
 pub const FIRST_HALF: u32 = 0x0000ffff;
 
+// What waits. That nothing does is a case beside the two others: with an Option around these each match on it would be two deep.
 #[derive(Clone, Copy)]
 pub enum Target {
     None,
@@ -27,7 +28,7 @@ pub enum Target {
 #[derive(Clone, Copy)]
 pub struct Wait {
     pub target: Target,
-    // which of the 32 places take a byte
+    // which of the 32 places take a byte; a row of its own, as C keeps it and gives it back, whatever the bytes of the other places
     pub places: [bool; 32],
     // by place of the sector
     pub bytes: [u8; 32],

@@ -15,6 +15,7 @@ use Rattle.chip.specs.declared.chip.Chip.{Chip}
 use Rattle.chip.proofs.EventLaws.{taken_so}
 use Rattle.trace.specs.Bytes.{event_of, all_events}
 use Rattle.trace.specs.Trace.{Ran, answers_of, run_refusal, run_answers, ran_of, unless}
+use Rattle.trace.proofs.RunLaws.{length_answers}
 use Rattle.report.specs.Report.{answer_text, report_of}
 use Rattle.report.specs.Text.{numeral, heading, events_word, lines_from, count_text, refused_text}
 use Rattle.report.proofs.TextLaws.{numeral_short, lines_short, refused_length}
@@ -37,12 +38,6 @@ answers_room answers few =
 pub refused_room : (number : ℕ) → length (refused_text number) ≤ 28695
 refused_room number = omega (arith, refused_length number, numeral_short number)
 
--- every event has its answer
-pub answers_all : (bytes : List ℕ) (w : World) → length (answers_of bytes w) ≡ length bytes
-unfolding answers_of
-answers_all [] w = refl
-answers_all (byte ∷ bytes) w = ap (λ (k : ℕ). suc k) (answers_all bytes (step (event_of byte) w))
-
 -- so no report is longer, whatever the chip and the bytes
 room_by : (few taken : Bool) (a r : List ℕ) → (few ≡ true → length a ≤ 28695) → length r ≤ 28695 → length (cond few (cond taken a r) (refused_text 4)) ≤ 28695
 room_by true true a r long short = long refl
@@ -54,7 +49,7 @@ unfolding report_of
 report_room c bytes =
     let answers : List ℕ = answers_of bytes (world c erased) in
     room_by (leb (length bytes) 4096) (eqb (run_refusal c erased bytes 4096) 0) (answer_text answers) (refused_text (run_refusal c erased bytes 4096))
-    (λ few. answers_room answers (rw (answers_all bytes (world c erased)) (leb-true (length bytes) 4096 few)))
+    (λ few. answers_room answers (rw (length_answers bytes (world c erased)) (leb-true (length bytes) 4096 few)))
     (refused_room (run_refusal c erased bytes 4096))
 
 -- a trace that is too long
@@ -96,7 +91,7 @@ module _ (c : Chip) (bytes old : List ℕ) {xs : List ℕ} {answered : Ran} (few
       let none : run_refusal c erased bytes 4096 ≡ 0 = sym number ∙ zero in
       let answers : take (length bytes) told ≡ answers_of bytes (world c erased) =
       ap (take (length bytes)) (said ∙ simp (all, room, none))
-      ∙ take_at (answers_of bytes (world c erased)) (drop (length bytes) old) (length bytes) (answers_all bytes (world c erased)) in
+      ∙ take_at (answers_of bytes (world c erased)) (drop (length bytes) old) (length bytes) (length_answers bytes (world c erased)) in
       simp (answers, none, le-leb _ _ few)
 
   -- one that is refused: its number alone

@@ -43,7 +43,7 @@ pub fn sample_byte(scl: bool, sda: bool, pin: bool) -> u8
     weigh(scl, 1) + weigh(sda, 2) + weigh(pin, 4)
 }
 
-// The answer byte of a line and the number of a note.
+// The answer byte of a line and the number of a note; of any number, bits 0-2.
 pub fn answer_byte(line: bool, note: u8) -> u8
     ensures { result ≡ answer_byte line note }
 {

@@ -19,8 +19,8 @@ with-refusal c xs m bytes old = refl
 pub returns : goal.returns
 unfolding run_number unless
 returns c =
-    let fit = sym c.bytes_fit.ensures ∙ c.if-not-bytes_fit.false in
-    let chip = sym c.unpack-chip.ensures in
+    let fit = c.in_ok-chip.ensures.0 in
+    let chip = sym c.in_ok-chip.ensures.1 in
     let ran = c.run.ensures in
     let done = sym ran.value in
     let zero : status_of c.run.result ≡ 0 = ap status_of c.in_ok-run.was in
@@ -35,11 +35,11 @@ returns c =
 pub returns-in_err-run : goal.returns-in_err-run
 unfolding run_number unless
 returns-in_err-run c =
-    let fit = sym c.bytes_fit.ensures ∙ c.if-not-bytes_fit.false in
-    let chip = sym c.unpack-chip.ensures in
+    let fit = c.in_ok-chip.ensures.0 in
+    let chip = sym c.in_ok-chip.ensures.1 in
     let ran = c.run.ensures in
     let done = sym ran.value in
-    let told : status_of c.from_residual.result ≡ status_of c.run.result = search rules in
+    let told : status_of c.from_residual-in_err-run.result ≡ status_of c.run.result = search rules in
     record {
       returned = simp (told, fit, chip, with-refusal, done);
       state = simp (fit, chip, with-refusal, done, ne_eqb _ _ (λ z. never_0 _ (sym (ap status_of c.in_err-run.was) ∙ z)));
