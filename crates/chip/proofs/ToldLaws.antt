@@ -1,5 +1,6 @@
 -- What an answer of the code stands for has the whole answer: two that stand for one are one. Assumes nothing.
 use Rattle.std.specs.Prelude.{◌≡◌, Option, Result, Ok, Err}
+use Rattle.std.specs.Result.{IsOk}
 use Rattle.std.proofs.Common.{refl, sym, ap}
 use Rattle.refusals.specs.Refusals.{status_of}
 use Rattle.refusals.specs.declared.Refusal.{Refusal}
@@ -23,6 +24,11 @@ same_made (Ok c) (Ok d) e = ap Ok (ap (λ (m : Made). m.chip) e)
 same_made (Ok c) (Err r) e = absurd (never_0 r (sym (ap (λ (m : Made). m.refusal) e)))
 same_made (Err r) (Ok d) e = absurd (never_0 r (ap (λ (m : Made). m.refusal) e))
 same_made (Err r) (Err s) e = ap Err (same_refusal r s (ap (λ (m : Made). m.refusal) e))
+
+-- what stands for no refusal is a chip
+pub made_taken : (told : Result Chip Refusal) → (made_as told).refusal ≡ 0 → IsOk told
+made_taken (Ok chip) none = refl
+made_taken (Err refusal) none = absurd (never_0 refusal none)
 
 -- an event, with the chip that it left
 pub same_answer : (a b : Result Told Refusal) {c d : Chip} → answer_as a c ≡ answer_as b d → (a ≡ b) × (c ≡ d)

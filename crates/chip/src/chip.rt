@@ -99,7 +99,7 @@ impl Chip {
     pub fn new(part: u8, select: u8) -> Result<Chip, Refusal>
         ensures { made_as result ≡ made part select }
     {
-        if (part <= 2) & (select <= 7) {
+        if part <= 2 && select <= 7 {
             return Ok(Chip::at_power_up(part, select, false, 0, Chip::SPOIL));
         }
         Err(Refusal::NoSuchChip)
@@ -120,13 +120,13 @@ impl Chip {
     pub(crate) fn fits(&self) -> bool
         ensures { result ≡ chip_fits self.now }
     {
-        (self.part <= 2)
-            & (self.select <= 7)
-            & (self.register.bl <= 3)
-            & (self.counter <= 0x3fff)
-            & self.phase.fits()
-            & (self.load.count <= 33)
-            & self.wait.target.fits()
+        self.part <= 2
+            && self.select <= 7
+            && self.register.bl <= 3
+            && self.counter <= 0x3fff
+            && self.phase.fits()
+            && self.load.count <= 33
+            && self.wait.target.fits()
     }
 
     // Whether the chip pulls the line.
@@ -141,14 +141,14 @@ impl Chip {
     pub(crate) fn marked(&self) -> bool
         ensures { result ≡ marked self.now.part self.now.mark }
     {
-        self.mark & has_register(self.part)
+        self.mark && has_register(self.part)
     }
 
     // Whether data for the array is taken.
     pub(crate) fn enabled(&self) -> bool
         ensures { result ≡ enabled self.now.part self.now.register.pel }
     {
-        self.register.pel | !has_register(self.part)
+        self.register.pel || !has_register(self.part)
     }
 
     // Moves to another phase.

@@ -23,7 +23,7 @@ fn rightly_placed(phase: Phase) -> bool
 }
 
 impl Chip {
-    // Whether a load of this many bytes is one that the part does not take.
+    // Whether the load is one that the part does not take.
     fn partial(&self) -> bool
         ensures { result ≡ partial self.now.part self.now.load.count }
     {

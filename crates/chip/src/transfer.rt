@@ -31,7 +31,7 @@ impl Chip {
     fn take_slave(&mut self, byte: u8)
         ensures { self.new ≡ slave_taken self.old byte }
     {
-        let ours = (byte / 16 == 0b1010) & (byte / 2 % 8 == self.select);
+        let ours = byte / 16 == 0b1010 && byte / 2 % 8 == self.select;
         self.phase = if !ours {
             Phase::Standby
         } else if byte % 2 == 0 {
@@ -46,10 +46,9 @@ impl Chip {
     fn take_address(&mut self, high: u8, low: u8)
         ensures { self.new ≡ address_taken self.old (high * 256 + low) }
     {
-        let address = u16::from(high) * 256 + u16::from(low);
-        let has = has_register(self.part);
+        let address = u16::from_be_bytes([high, low]);
         self.phase = Phase::AckByte;
-        self.mark = (address == 0xffff) & has;
+        self.mark = address == 0xffff && has_register(self.part);
         if !self.mark {
             self.counter = address % 0x4000;
         }

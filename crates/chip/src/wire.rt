@@ -32,7 +32,7 @@ pub enum Edge {
 pub(crate) fn line_of(pulls: bool, sda: bool) -> bool
     ensures { result ≡ line_of pulls sda }
 {
-    !pulls & sda
+    !pulls && sda
 }
 
 // The edge between the last levels and these.

@@ -81,7 +81,7 @@ fn head_bytes(chip: &Chip) -> [u8; at::PLACES]
     ]
 }
 
-// A byte for each flag.
+// A byte for each flag. The array's own `map` takes five times the instructions.
 fn flag_bytes(flags: &[bool; Chip::SECTOR]) -> [u8; Chip::SECTOR]
     ensures { result ≡ map flag_byte flags.now }
 {

@@ -62,7 +62,7 @@ fn row_at(state: &[u8; at::SIZE], offset: usize) -> [u8; Chip::SECTOR]
     bytes
 }
 
-// The row of a flag for each place that stands at an offset.
+// The row of a flag for each place that stands at an offset; by a loop for the same reason as `flag_bytes`.
 fn flags_at(state: &[u8; at::SIZE], offset: usize) -> [bool; Chip::SECTOR]
     requires { offset + 32 ≤ size }
     ensures { result ≡ map flag_of (row 32 offset state.now) }

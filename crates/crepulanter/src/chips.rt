@@ -34,7 +34,7 @@ pub extern "C" fn crep_new(state: &mut [u8; at::SIZE], part: u8, select: u8) -> 
     status(&made)
 }
 
-// A trace on the chip of these bytes, which are what it leaves, or stay where it is refused.
+// Runs a trace on the chip that these bytes are, and makes them the chip after it; where it is refused, they stay.
 #[tactic(auto, using(crate::proofs::Refusals::unfit_taken), unfolding(crate::specs::Calls::run_number, trace::specs::Trace::unless))]
 fn run_in(
     state: &mut [u8; at::SIZE],
@@ -80,7 +80,7 @@ pub extern "C" fn crep_event(
     refused
 }
 
-// A power-up of the chip of these bytes, which are what it leaves, or stay where it is refused.
+// A power-up of the chip that these bytes are; they become the chip after it, or stay where it is refused.
 #[tactic(auto, using(crate::proofs::Refusals::unfit_taken), unfolding(crate::specs::Calls::power_up_number, trace::specs::Trace::unless))]
 fn power_up_in(state: &mut [u8; at::SIZE], array: &mut [u8], choices: u32) -> Result<(), Refusal>
     ensures { PowerUpSays state.old array.old choices (status_of result) state.new array.new 1 }
@@ -105,7 +105,7 @@ pub extern "C" fn crep_power_up(
     status(&power_up_in(state, array, choices))
 }
 
-// Recovery of the chip of these bytes, which are what it leaves, or stay where it is refused.
+// Recovery with the chip that these bytes are; they become the chip after it, or stay where it is refused.
 #[tactic(auto, using(crate::proofs::Refusals::unfit_taken), unfolding(crate::specs::Calls::recover_number, trace::specs::Trace::unless))]
 fn recover_in(state: &mut [u8; at::SIZE], array: &mut [u8], pin: u8) -> Result<u8, Refusal>
     ensures { RecoverSays state.old array.old pin (status_of result) state.new array.new (pulses_told result) }

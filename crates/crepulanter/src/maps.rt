@@ -63,7 +63,7 @@ pub extern "C" fn crep_map_first(map: &[u8], sector: &mut u16) -> u8
     status(&found)
 }
 
-// A trace on the chip of these bytes, with the map kept; the bytes are what it leaves, or stay where it is refused.
+// Runs a trace on the chip that these bytes are, with the map kept, and makes them the chip after it; where it is refused, they stay.
 #[tactic(auto, using(crate::proofs::Refusals::unfit_map_taken), unfolding(crate::specs::Calls::run_number, trace::specs::Trace::unless))]
 fn run_in(
     state: &mut [u8; at::SIZE],
@@ -113,7 +113,7 @@ pub extern "C" fn crep_map_event(
     refused
 }
 
-// A power-up of the chip of these bytes, with the map kept; the bytes are what it leaves, or stay where it is refused.
+// A power-up of the chip that these bytes are, with the map kept; they become the chip after it, or stay where it is refused.
 #[tactic(auto, using(crate::proofs::Refusals::unfit_map_taken), unfolding(crate::specs::Calls::power_up_number, trace::specs::Trace::unless))]
 fn power_up_in(
     state: &mut [u8; at::SIZE],

@@ -26,5 +26,5 @@ pub fn is_locked(part: u8, bl: u8, pin: bool, address: u16) -> bool
     if has_register(part) {
         return first_locked(part, bl) <= address;
     }
-    pin & (0x3000 <= address)
+    pin && 0x3000 <= address
 }

@@ -22,7 +22,7 @@ pub enum Note {
 }
 
 // The number of a note, 0 where there is none.
-pub fn note_number(note: Option<Note>) -> u8
+pub fn note_or_0(note: Option<Note>) -> u8
     ensures { result ≡ note_or_0 note }
 {
     note.map_or(0, |note| note as u8)

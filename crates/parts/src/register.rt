@@ -31,7 +31,7 @@ pub fn has_register(part: u8) -> bool
 fn is_reserved(byte: u8) -> bool
     ensures { result ≡ reserved byte }
 {
-    bit_of(byte, 0) | bit_of(byte, 5) | bit_of(byte, 6)
+    bit_of(byte, 0) || bit_of(byte, 5) || bit_of(byte, 6)
 }
 
 impl Register {

@@ -105,8 +105,8 @@ operations =
     one (whole 0 refusals.Refusal.number.Kinds.ps refusals.Refusal.number.Kinds.r refusals.Refusal.number.Reads.Post)
     (λ κs (self, end). (number_of self, (tt, tt)))
     (λ κs input r left. alone)
-    -- parts::note::note_number
-    ∷ one (whole 0 note.note_number.Kinds.ps note.note_number.Kinds.r note.note_number.Reads.Post)
+    -- parts::note::note_or_0
+    ∷ one (whole 0 note.note_or_0.Kinds.ps note.note_or_0.Kinds.r note.note_or_0.Reads.Post)
     (λ κs (noted, end). (note_or_0 noted, (tt, tt)))
     (λ κs input r left. alone)
     -- parts::phase::bit_of

@@ -29,7 +29,7 @@ number_of Select = 16
 number_of EventRoom = 17
 number_of MapLength = 18
 
--- O1-O13: 0 for a call that was taken
+-- O1-O8, O11-O14: 0 for a call that was taken
 abbrev pub status_of : {A : Type 0} → Result A Refusal → ℕ
 status_of (Ok value) = 0
 status_of (Err refusal) = number_of refusal

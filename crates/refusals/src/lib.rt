@@ -13,7 +13,7 @@ pub enum Refusal {
     ChipRange = 2,
     // a part or a select that does not exist
     NoSuchChip = 3,
-    // the trace is longer than 65,536 events
+    // the trace is longer than 65,536 events, or on the bench than 4,096
     TraceLength = 4,
     // the answer buffer is shorter than the trace
     AnswerRoom = 5,

@@ -9,7 +9,7 @@ ghost use Rattle.trace.specs.Trace.{after, answers_of, run_refusal, run_array, r
 
 use chip::chip::Chip;
 use chip::wire::{Event, Sample};
-use parts::note::note_number;
+use parts::note::note_or_0;
 use parts::phase::{bit_of, weigh};
 use parts::wait::{EVERY_PLACE, FIRST_HALF, NO_PLACE};
 use refusals::Refusal;
@@ -84,7 +84,7 @@ fn run_events(chip: &mut Chip, array: &mut [u8], trace: &[u8], answers: &mut [u8
 {
     for (i, byte) in trace.iter().enumerate() {
         let note = chip.next(array, event_of(*byte));
-        answers[i] = answer_byte(chip.line, note_number(note));
+        answers[i] = answer_byte(chip.line, note_or_0(note));
     }
 }
 

@@ -1,5 +1,5 @@
 // What the vectors write on standard output: the script's own bytes, names, and numbers in hexadecimal, in small letters.
-use parts::note::{Note, note_number};
+use parts::note::{Note, note_or_0};
 use refusals::Refusal;
 use std::io;
 
@@ -52,10 +52,10 @@ pub(crate) fn refused<T>(rt: &impl Print, answer: &Result<T, Refusal>) -> io::Re
 
 // The number of a note, where there is one.
 pub(crate) fn note(rt: &impl Print, note: Option<Note>) -> io::Result<()> {
-    match note_number(note) {
-        0 => Ok(()),
-        n => number(rt, b'\'', n, 1),
+    if note.is_some() {
+        number(rt, b'\'', note_or_0(note), 1)?;
     }
+    Ok(())
 }
 
 // `=` and the byte at one position, nothing but the sign where there is none.

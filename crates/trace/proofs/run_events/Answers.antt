@@ -9,7 +9,7 @@ pub loop-i-preserved : goal.loop-i-preserved
 loop-i-preserved c =
     let chip = ap (λ (m : Moved). m.chip) c.next-note.ensures.0 in
     let note = ap (λ (m : Moved). m.note) c.next-note.ensures.0 in
-    rw (c.answer_byte.ensures, c.note_number.ensures, chip, note, c.next-note.ensures.1, c.event_of.ensures)
+    rw (c.answer_byte.ensures, c.note_or_0.ensures, chip, note, c.next-note.ensures.1, c.event_of.ensures)
     (going_again _ _ _ _ _ _ _ c.loop-i.invariant c.loop-i-test.true (omega arith))
 
 pub returns : goal.returns
