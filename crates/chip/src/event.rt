@@ -20,19 +20,16 @@ pub struct Answer {
 }
 
 impl Chip {
-    // What an edge does, with the line and the pin of its sample.
+    // What an edge does, with the line and the pin of its sample: the next chip, and what it notes.
     #[tactic(auto, unfolding(crate::specs::Event::reacted))]
-    fn react(&mut self, array: &[u8], edge: Edge, line: bool, pin: bool) -> Option<Note>
-        ensures { moved self.new (note_or_0 result) ≡ reacted edge self.old line pin array.now }
+    fn react(self, array: &[u8], edge: Edge, line: bool, pin: bool) -> (Chip, Option<Note>)
+        ensures { moved result.0 (note_or_0 result.1) ≡ reacted edge self line pin array.now }
     {
         match edge {
-            Edge::Quiet => None,
+            Edge::Quiet => (self, None),
             Edge::Start => self.start(),
             Edge::Stop => self.stop(pin),
-            Edge::Rise => {
-                self.rise(line);
-                None
-            }
+            Edge::Rise => (self.rise(line), None),
             Edge::Fall => self.fall(array),
         }
     }
@@ -46,7 +43,9 @@ impl Chip {
             return None;
         }
         let edge = edge_of(self.scl, scl, self.line, line);
-        self.react(array, edge, line, pin)
+        let (next, note) = self.react(array, edge, line, pin);
+        *self = next;
+        note
     }
 
     // Keeps the levels of a sample: its clock, and the line with the pull after it.

@@ -1,5 +1,5 @@
 -- The turns of the loop of pulses: pulse k ends it where the line is high, or is the tenth, or leads to the next. Assumes nothing.
-use Prim.Native.Nat.{ℕ, zero, suc, ◌+◌, ◌-◌, ◌≤◌}
+use Prim.Native.Nat.{ℕ, zero, suc, ◌+◌, ◌-◌, ◌≤◌, ◌<◌}
 use mathlib.Core.Bool.{Bool, true, false}
 use mathlib.Core.Path.{◌≡◌, refl, ap, ◌∙◌}
 use mathlib.Core.List.{List, [], ◌∷◌}
@@ -22,11 +22,6 @@ use Rattle.trace.proofs.ByteLaws.{sample_event, sample_taken}
 use Rattle.trace.proofs.RunLaws.{run_taken, run_whole}
 use Rattle.recovery.specs.Recovery.{Freed, pulse, pulsed, freed, pulse_bytes, start_bytes}
 
--- with so many pulses left the one of number k comes next; with none left there were ten
-abbrev pub still : ℕ → ℕ → Bool → World → Freed
-still zero k pin w = record { world = w; pulses = 10 }
-still (suc left) k pin w = pulsed left k pin w
-
 module _ (pin : Bool) (w : World) where
   abbrev pub freed_at : ℕ → Freed
   freed_at k = record { world = pulse pin w; pulses = k }
@@ -37,24 +32,17 @@ module _ (pin : Bool) (w : World) where
   pulsed_high zero k high = refl
   pulsed_high (suc left) k high = rw high
 
-  pub still_high : (k : ℕ) → k ≤ 10 → (pulse pin w).chip.line ≡ true → still (11 - k) k pin w ≡ freed_at k
-  still_high k h high =
-      let one : 11 - k ≡ suc (10 - k) = omega arith in
-      rw one (pulsed_high (10 - k) k high)
-
-  -- a pulse that leaves it low leads to the next, or is the tenth
-  pulsed_low : (left k : ℕ) → k + left ≡ 10 → (pulse pin w).chip.line ≡ false → pulsed left k pin w ≡ still left (k + 1) pin (pulse pin w)
+  -- a pulse before the tenth that leaves it low leads to the next
+  pub pulsed_low : (k : ℕ) → k < 10 → (pulse pin w).chip.line ≡ false → pulsed (10 - k) k pin w ≡ pulsed (10 - (k + 1)) (k + 1) pin (pulse pin w)
   unfolding pulsed
-  pulsed_low zero k h low =
-      let tenth : k ≡ 10 = omega arith in
-      rw tenth
-  pulsed_low (suc left) k h low = rw low
+  pulsed_low k h low =
+      let one : 10 - k ≡ suc (10 - (k + 1)) = omega arith in
+      rw (one, low)
 
-  pub still_low : (k : ℕ) → k ≤ 10 → (pulse pin w).chip.line ≡ false → still (11 - k) k pin w ≡ still (11 - (k + 1)) (k + 1) pin (pulse pin w)
-  still_low k h low =
-      let one : 11 - k ≡ suc (10 - k) = omega arith in
-      let rest : 11 - (k + 1) ≡ 10 - k = omega arith in
-      rw (one, rest) (pulsed_low (10 - k) k (omega arith) low)
+  -- the tenth is the last
+  pub pulsed_tenth : (k : ℕ) → k ≡ 10 → pulsed (10 - k) k pin w ≡ freed_at 10
+  unfolding pulsed
+  pulsed_tenth k tenth = rw tenth
 
 -- the event bytes of a pulse, and of the start, are event bytes and make the same world
 pub pulse_events : (pin : Bool) → all_events (pulse_bytes pin) ≡ true

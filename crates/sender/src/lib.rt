@@ -36,9 +36,9 @@ fn event_count(part: u8) -> usize
 fn check(part: u8, select: u8, gate: u16, bytes: &[u8], room: usize) -> Result<(), Refusal>
     ensures { status_of result ≡ send_refusal part select gate bytes.now room }
 {
-    if read(bytes)?.is_none() {
+    let Some(_) = read(bytes)? else {
         return Err(Refusal::NoGate);
-    }
+    };
     if 511 < gate {
         return Err(Refusal::GateNumber);
     }
