@@ -20,16 +20,19 @@ pub struct Answer {
 }
 
 impl Chip {
-    // What an edge does, with the line and the pin of its sample: the next chip, and what it notes.
+    // What an edge does, with the line and the pin of its sample.
     #[tactic(auto, unfolding(crate::specs::Event::reacted))]
-    fn react(self, array: &[u8], edge: Edge, line: bool, pin: bool) -> (Chip, Option<Note>)
-        ensures { moved result.0 (note_or_0 result.1) ≡ reacted edge self line pin array.now }
+    fn react(&mut self, array: &[u8], edge: Edge, line: bool, pin: bool) -> Option<Note>
+        ensures { moved self.new (note_or_0 result) ≡ reacted edge self.old line pin array.now }
     {
         match edge {
-            Edge::Quiet => (self, None),
+            Edge::Quiet => None,
             Edge::Start => self.start(),
             Edge::Stop => self.stop(pin),
-            Edge::Rise => (self.rise(line), None),
+            Edge::Rise => {
+                self.rise(line);
+                None
+            }
             Edge::Fall => self.fall(array),
         }
     }
@@ -43,9 +46,7 @@ impl Chip {
             return None;
         }
         let edge = edge_of(self.scl, scl, self.line, line);
-        let (next, note) = self.react(array, edge, line, pin);
-        *self = next;
-        note
+        self.react(array, edge, line, pin)
     }
 
     // Keeps the levels of a sample: its clock, and the line with the pull after it.

