@@ -1,3 +1,4 @@
 pub mod Overs
 pub mod Lows
+pub mod Writes
 pub mod Sends

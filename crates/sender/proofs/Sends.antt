@@ -1,15 +1,14 @@
--- What an answer of 0 says of what was given, and what two messages and a program-done leave in a buffer. Assumes nothing.
+-- What an answer of 0 says of what was given, and what two messages and a program-done are together. Assumes nothing.
 use Prim.Native.Nat.{ℕ, ◌+◌, ◌*◌, ◌≤◌}
 use mathlib.Core.Bool.{Bool, true, false, cond}
 use mathlib.Core.List.{List, [], ◌∷◌, ◌++◌}
 use mathlib.Core.Path.{◌≡◌, refl, sym, ap, ◌∙◌}
-use native.Mathlib.Nat.{zero-add}
 use native.Mathlib.Omega.{arith}
 use borrow.Author.Tests.{ltb-false, le-ltb}
 use lib.Dec.{ltb}
 use lib.IntN.{ℤ}
-use lib.ListN.{length, set, take, drop, length-append}
-use lib.Seq.{sets-eq, take_at}
+use lib.ListN.{length, take, drop, length-append}
+use lib.Seq.{take_at}
 use Rattle.std.specs.Prelude.{Result, Ok, Err}
 use Rattle.std.specs.Result.{result_unwrap_or}
 use Rattle.refusals.specs.Refusals.{status_of}
@@ -27,9 +26,11 @@ use Rattle.gate.proofs.RoundTrip.{written_read}
 use Rattle.messages.specs.Messages.{message, register_write}
 use Rattle.messages.specs.Wires.{Wires}
 use Rattle.messages.proofs.Spelling.{spelled_events, message_length}
-use Rattle.sender.specs.Sending.{Sent, sent_as, low, over, pel_message, lead, event_count, sent_events, send_refusal, sent_buffer}
-use Rattle.sender.proofs.Overs.{over_front, over_then, over_length}
-use Rattle.sender.proofs.Lows.{low_length, low_then}
+use Rattle.sender.specs.Sending.{Sent, sent_as, low, pel_message, lead, event_count, sent_events, send_refusal, sent_buffer}
+use Rattle.sender.specs.declared.spelling.Writer.{Writer}
+use Rattle.sender.specs.Writing.{Puts}
+use Rattle.sender.proofs.Lows.{low_length}
+use Rattle.sender.proofs.Writes.{puts_more, puts_on, puts_front}
 
 -- two answers of the code that stand for the same are one
 pub same_sent : (a b : Result ℕ Refusal) → sent_as a ≡ sent_as b → a ≡ b
@@ -104,6 +105,10 @@ pel_length part select = go (has_register part)
     go true = message_length select 0xffff (0x02 ∷ [])
     go false = refl
 
+-- and so do its bytes
+pub lead_length : (part select : ℕ) → length (low (pel_message part select)) ≡ lead part
+lead_length part select = low_length (pel_message part select) ∙ pel_length part select
+
 module _ (part select gate : ℕ) (bytes : List ℕ) (sized : length bytes ≡ 32) where
   wires : List Wires
   wires = pel_message part select ++ message select (gate * 32) bytes
@@ -126,24 +131,15 @@ module _ (part select gate : ℕ) (bytes : List ℕ) (sized : length bytes ≡ 3
   sent_events_law =
       every_on is_event (low wires) (8 ∷ []) (spelled_events (λ k. false) wires) refl
 
-  -- the first message where it is sent, the second behind it, and a program-done
-  pub all_sent : (at : ℕ) (one two old : List ℕ) → event_count part ≤ length old → at ≡ lead part → one ≡ over 0 (low (pel_message part select)) old
-      → two ≡ over at (low (message select (gate * 32) bytes)) one
-      → set two (at + 635) 8 ≡ sent_events part select gate bytes ++ drop (event_count part) old
+  -- from the front on, the first message where it is sent, the second behind it, and a program-done: how many they are, and what the buffer holds
+  pub all_sent : {start led told done : Writer} → start.end ≡ 0 → Puts start led (low (pel_message part select))
+      → Puts led told (low (message select (gate * 32) bytes)) → Puts told done (8 ∷ [])
+      → (done.end ≡ event_count part) × (done.events.now ≡ sent_events part select gate bytes ++ drop (event_count part) start.events.now)
   unfolding sent_events wires
-  all_sent at one two old room here e1 e2 =
-      let place : length (pel_message part select) ≡ at = pel_length part select ∙ sym here in
-      let both : two ≡ over 0 (low wires) old =
-      e2 ∙ ap (λ (n : ℕ). over n (low (message select (gate * 32) bytes)) one) (sym (zero-add at)) ∙ low_then 0 old (omega arith) (pel_message part select) (message select (gate * 32) bytes) one at place e1 in
-      let size : length (low wires) ≡ at + 635 = low_length wires ∙ wires_length ∙ ap (λ (n : ℕ). n + 635) (sym here) in
-      let enough : at + 636 ≤ length old = omega (arith, room, here, lead_count part) in
-      let kept : length two ≡ length old = ap length both ∙ over_length 0 (low wires) old (omega arith) in
-      sets-eq (8 ∷ []) two (at + 635) (omega arith)
-      ∙ ap (λ (l : List ℕ). over (at + 635) (8 ∷ []) l) both
-      ∙ ap (λ (n : ℕ). over n (8 ∷ []) (over 0 (low wires) old)) (sym (zero-add (at + 635)))
-      ∙ over_then 0 (low wires) old (8 ∷ []) (at + 635) (omega arith) size
-      ∙ over_front (low wires ++ (8 ∷ [])) old
-      ∙ ap (λ (n : ℕ). sent_events part select gate bytes ++ drop n old) sent_length
+  all_sent {start} {done} front p q r =
+      let inside : start.end ≤ length start.events.now = omega arith in
+      let all : Puts start done (sent_events part select gate bytes) = puts_more inside (puts_on (pel_message part select) (message select (gate * 32) bytes) inside p q) r in
+      (omega (arith, all.end, sent_length), puts_front front all ∙ ap (λ (n : ℕ). sent_events part select gate bytes ++ drop n start.events.now) sent_length)
 
 -- where sending is not refused, the buffer begins with what is sent
 pub sent_front : (part select gate : ℕ) (bytes old : List ℕ) → send_refusal part select gate bytes (length old) ≡ 0

@@ -8,7 +8,7 @@ ghost use Rattle.sender.specs.Sending.{event_count, send_refusal, sent_as, sent_
 
 mod spelling;
 
-use crate::spelling::{put_lead, put_message};
+use crate::spelling::Writer;
 use gate::read;
 use parts::register::has_register;
 use refusals::Refusal;
@@ -56,7 +56,7 @@ fn check(part: u8, select: u8, gate: u16, bytes: &[u8], room: usize) -> Result<(
 
 // Writes the events that set PEL, where the part has one, and put a good record into the sector of its gate, protect pin low in each, and
 // answers their number. Refused, also with a free record, it writes nothing. Bytes past the events stay.
-#[tactic(auto, using(crate::proofs::Sends::send_taken, crate::proofs::Sends::lead_count), unfolding(crate::specs::Sending::sent_of, crate::specs::Sending::sent_buffer, trace::specs::Trace::unless))]
+#[tactic(auto, using(crate::proofs::Sends::send_taken), unfolding(crate::specs::Sending::sent_of, crate::specs::Sending::sent_buffer, trace::specs::Trace::unless))]
 pub fn send(
     part: u8,
     select: u8,
@@ -68,8 +68,9 @@ pub fn send(
     ensures events_after { events.new ≡ sent_buffer part select gate bytes.now events.old }
 {
     check(part, select, gate, bytes, events.len())?;
-    let lead = put_lead(events, part, select);
-    put_message(events, lead, select, gate * 32, bytes);
-    events[lead + 635] = 8;
-    Ok((lead + 636) as u16)
+    let mut writer = Writer { events, end: 0 };
+    writer.lead(part, select);
+    writer.message(select, gate * 32, bytes);
+    writer.put(&[8]);
+    Ok(writer.end as u16)
 }

@@ -1,85 +1,90 @@
-// Messages as event bytes with the protect pin low, put into a buffer from a place on.
+// Messages as event bytes with the protect pin low, written into a lent buffer one behind the other.
 ghost use Rattle.std.specs.Prelude.{◌≡◌, ◌+◌, ◌*◌, ◌≤◌, length};
 ghost use Rattle.messages.specs.Messages.{begin, end, byte_sent, bytes_sent, message};
 ghost use Rattle.messages.specs.Wires.{clock};
-ghost use Rattle.sender.specs.Sending.{low, over, pel_message, lead};
+ghost use Rattle.sender.specs.Sending.{low, pel_message, lead};
+ghost use Rattle.sender.specs.Writing.{Puts};
 
 use parts::phase::bit_of;
 use parts::register::has_register;
 use trace::sample_byte;
 
-// One clock: SCL low, then high, with one SDA in both.
-fn put_clock(events: &mut [u8], at: usize, sda: bool)
-    requires { at + 2 ≤ length events.old }
-    ensures { events.new ≡ over at (low (clock sda)) events.old }
-{
-    events[at] = sample_byte(false, sda, false);
-    events[at + 1] = sample_byte(true, sda, false);
-}
-
-// A byte that is sent: its bits, bit 7 first, and a ninth clock with SDA let go.
-fn put_byte(events: &mut [u8], at: usize, byte: u8)
-    requires { at + 18 ≤ length events.old }
-    ensures { events.new ≡ over at (low (byte_sent byte)) events.old }
-{
-    for k in 0..8 {
-        put_clock(events, at + usize::from(k) * 2, bit_of(byte, 7 - k));
-    }
-    put_clock(events, at + 16, true);
-}
-
-// Bytes that are sent one after the other.
-fn put_bytes(events: &mut [u8], at: usize, bytes: &[u8])
-    requires { at + 18 * length bytes.now ≤ length events.old }
-    ensures { events.new ≡ over at (low (bytes_sent bytes.now)) events.old }
-{
-    for (i, byte) in bytes.iter().enumerate() {
-        put_byte(events, at + i * 18, *byte);
-    }
-}
-
 // A start, from wires that are let go.
-fn put_begin(events: &mut [u8], at: usize)
-    requires { at + 2 ≤ length events.old }
-    ensures { events.new ≡ over at (low begin) events.old }
-{
-    events[at] = 3;
-    events[at + 1] = 1;
-}
+const START: [u8; 2] = [3, 1];
 
 // A stop after a ninth clock.
-fn put_end(events: &mut [u8], at: usize)
-    requires { at + 3 ≤ length events.old }
-    ensures { events.new ≡ over at (low end) events.old }
-{
-    events[at] = 0;
-    events[at + 1] = 1;
-    events[at + 2] = 3;
+const STOP: [u8; 3] = [0, 1, 3];
+
+// A buffer of events, and how many are written.
+#[derive(Drop)]
+pub(crate) struct Writer<'a> {
+    pub(crate) events: &'a mut [u8],
+    pub(crate) end: usize,
 }
 
-// A message: start, slave byte with write, the address's high byte and low byte, data bytes, stop.
-pub(crate) fn put_message(events: &mut [u8], at: usize, select: u8, address: u16, bytes: &[u8])
-    requires { (select ≤ 7) × (at + 59 + 18 * length bytes.now ≤ length events.old) }
-    ensures { events.new ≡ over at (low (message select address bytes.now)) events.old }
-{
-    put_begin(events, at);
-    put_byte(events, at + 2, 0xa0 + select * 2);
-    let [high, low] = address.to_be_bytes();
-    put_byte(events, at + 20, high);
-    put_byte(events, at + 38, low);
-    put_bytes(events, at + 56, bytes);
-    put_end(events, at + 56 + bytes.len() * 18);
-}
+impl Writer<'_> {
+    // Writes event bytes.
+    pub(crate) fn put(&mut self, bytes: &[u8])
+        requires { self.old.end + length bytes.now ≤ length self.old.events.now }
+        ensures { Puts self.old self.new bytes.now }
+    {
+        let start = self.end;
+        self.end += bytes.len();
+        let events = &mut *self.events;
+        events[start..self.end].copy_from_slice(bytes);
+    }
 
-// The message that sets PEL, from the front on, where the part has one: how many events that is.
-pub(crate) fn put_lead(events: &mut [u8], part: u8, select: u8) -> usize
-    requires { (select ≤ 7) × (lead part ≤ length events.old) }
-    ensures { (result ≡ lead part) × (events.new ≡ over 0 (low (pel_message part select)) events.old) }
-{
-    if has_register(part) {
-        put_message(events, 0, select, 0xffff, &[0x02]);
-        77
-    } else {
-        0
+    // One clock: SCL low, then high, with one SDA in both.
+    fn clock(&mut self, sda: bool)
+        requires { self.old.end + 2 ≤ length self.old.events.now }
+        ensures { Puts self.old self.new (low (clock sda)) }
+    {
+        self.put(&[
+            sample_byte(false, sda, false),
+            sample_byte(true, sda, false),
+        ]);
+    }
+
+    // A byte that is sent: its bits, bit 7 first, and a ninth clock with SDA let go.
+    fn byte(&mut self, byte: u8)
+        requires { self.old.end + 18 ≤ length self.old.events.now }
+        ensures { Puts self.old self.new (low (byte_sent byte)) }
+    {
+        for k in 0..8 {
+            self.clock(bit_of(byte, 7 - k));
+        }
+        self.clock(true);
+    }
+
+    // Bytes that are sent one after the other.
+    fn bytes(&mut self, bytes: &[u8])
+        requires { self.old.end + 18 * length bytes.now ≤ length self.old.events.now }
+        ensures { Puts self.old self.new (low (bytes_sent bytes.now)) }
+    {
+        for byte in bytes {
+            self.byte(*byte);
+        }
+    }
+
+    // A message: start, slave byte with write, the address's high byte and low byte, data bytes, stop.
+    pub(crate) fn message(&mut self, select: u8, address: u16, bytes: &[u8])
+        requires { (select ≤ 7) × (self.old.end + 59 + 18 * length bytes.now ≤ length self.old.events.now) }
+        ensures { Puts self.old self.new (low (message select address bytes.now)) }
+    {
+        let [high, low] = address.to_be_bytes();
+        self.put(&START);
+        self.bytes(&[0xa0 + select * 2, high, low]);
+        self.bytes(bytes);
+        self.put(&STOP);
+    }
+
+    // The message that sets PEL, where the part has one.
+    pub(crate) fn lead(&mut self, part: u8, select: u8)
+        requires { (select ≤ 7) × (self.old.end + lead part ≤ length self.old.events.now) }
+        ensures { Puts self.old self.new (low (pel_message part select)) }
+    {
+        if has_register(part) {
+            self.message(select, 0xffff, &[0x02]);
+        }
     }
 }
