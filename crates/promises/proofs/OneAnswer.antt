@@ -1,4 +1,5 @@
--- One answer for one input, for every public operation of every crate. Each line of the list has an operation's contract, as the toolchain reads
+-- One answer for one input, for every public operation of every crate but the generic ones, `refusals::status` and `bench_io::read_full`, whose contracts
+-- have types to choose besides. Each line of the list has an operation's contract, as the toolchain reads
 -- it off the source, and the outcome that it names, in the words of its `ensures`: the answer, then one place a parameter, with the bytes that a
 -- `&mut` holds afterwards; a contract that is a record of parts, or names an answer by what it stands for, is compared part by part. Two outcomes
 -- are then equal, by one lemma or by the parts.
