@@ -8,10 +8,8 @@ use gate::is_free;
 use parts::phase::bit_of;
 use refusals::Refusal;
 
-// How many bytes a map has, and how many sectors the array.
-pub(crate) const BYTES: usize = 64;
-
-const SECTORS: usize = 512;
+// How many bytes a map has.
+pub const BYTES: usize = 64;
 
 // What each bit of a byte is worth.
 const WORTH: [u8; 8] = [1, 2, 4, 8, 16, 32, 64, 128];
@@ -82,7 +80,7 @@ pub fn build(array: &[u8], map: &mut [u8]) -> Result<(), Refusal>
     ensures { (status_of result ≡ build_refusal array.now map.old) × (map.new ≡ built_of array.now map.old) }
 {
     with_map(check_array(array), &map[..])?;
-    for k in 0..SECTORS {
+    for k in 0..Chip::SECTORS {
         enter(map, array, k);
     }
     Ok(())
