@@ -11,9 +11,6 @@ use chip_bytes::{at, bytes_fit, pack, unpack};
 use map::{build, first_free, power_up, run};
 use refusals::{Refusal, status};
 
-// How many bytes a map has.
-const BYTES: usize = 64;
-
 // What C is told where no sector is found: one past the last.
 const NONE: u16 = 512;
 
@@ -28,7 +25,7 @@ fn load(state: &[u8; at::SIZE], array: &[u8], map: &[u8]) -> Result<Chip, Refusa
     if array.len() != Chip::BYTES {
         return Err(Refusal::ArrayLength);
     }
-    if map.len() != BYTES {
+    if map.len() != map::BYTES {
         return Err(Refusal::MapLength);
     }
     Err(Refusal::ChipRange)

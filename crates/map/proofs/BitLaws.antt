@@ -1,12 +1,11 @@
 -- One bit of a byte: what a byte with this bit set or cleared is, and which bits it has; a byte is its bits. Computed for every byte and every bit. Assumes nothing.
-use Prim.Native.Nat.{ℕ, zero, suc, ◌+◌, ◌-◌, ◌≤◌, ◌<◌}
+use Prim.Native.Nat.{ℕ, zero, suc, ◌+◌, ◌-◌, ◌*◌, ◌%◌, ◌^◌, ◌<◌}
 use mathlib.Core.Bool.{Bool, true, false, cond, beq}
-use mathlib.Core.List.{[], ◌∷◌}
 use mathlib.Core.Path.{◌≡◌, refl, sym, ◌∙◌}
 use native.Mathlib.Omega.{arith}
-use lib.Dec.{eqb, leb, ltb}
-use lib.ListN.{get_or}
-use borrow.Author.Tests.{eqb-true, leb-true, ltb-true}
+use lib.Bits.{bit_and, bit_or}
+use lib.Dec.{eqb, ltb}
+use borrow.Author.Tests.{eqb-true, ltb-true}
 use Rattle.parts.specs.Phase.{weight, bit_of}
 use Rattle.parts.proofs.CondLaws.{beq_true}
 use Rattle.parts.proofs.RowLaws.{below, each}
@@ -39,36 +38,23 @@ smalls false = refl
 pub with_byte : (byte bit : ℕ) (on : Bool) → byte < 256 → bit < 8 → with_bit byte bit on < 256
 with_byte byte bit on h k = ltb-true _ _ (at_bit (λ x b. ltb (with_bit x b on) 256) (smalls on) byte bit h k)
 
--- what a bit is worth: the code's table
-abbrev pub worth : ℕ → ℕ
-worth bit = get_or (1 ∷ 2 ∷ 4 ∷ 8 ∷ 16 ∷ 32 ∷ 64 ∷ 128 ∷ []) bit 0
-
 -- as the code makes it
 abbrev pub moved : Bool → ℕ → ℕ → ℕ
-moved on byte bit = cond (bit_of byte bit) (cond on byte (byte - worth bit)) (cond on (byte + worth bit) byte)
+moved on byte bit = cond on (bit_or byte (1 * 2 ^ bit % 256)) (bit_and byte (255 - 1 * 2 ^ bit % 256))
 
 moves : (on : Bool) → below 256 (λ byte. below 8 (λ bit. eqb (with_bit byte bit on) (moved on byte bit))) ≡ true
 unfolding below with_bit
 moves true = refl
 moves false = refl
 
--- a bit that is to change is taken away or added, any other stays
+-- its mask put in, or taken out
 pub with_moved : (byte bit : ℕ) (on : Bool) → byte < 256 → bit < 8 → with_bit byte bit on ≡ moved on byte bit
 with_moved byte bit on h k = eqb-true _ _ (at_bit (λ x b. eqb (with_bit x b on) (moved on x b)) (moves on) byte bit h k)
-
-leasts : below 256 (λ byte. below 8 (λ bit. leb (weight (bit_of byte bit) (worth bit)) byte)) ≡ true
-unfolding below
-leasts = refl
-
--- a byte is not less than a bit that it has
-pub bit_least : (byte bit : ℕ) → byte < 256 → bit < 8 → bit_of byte bit ≡ true → worth bit ≤ byte
-bit_least byte bit h k e =
-    rw e at (leb-true (weight (bit_of byte bit) (worth bit)) byte (at_bit (λ x b. leb (weight (bit_of x b) (worth b)) x) leasts byte bit h k))
 
 -- the number that n bits are
 unfoldable packed : ℕ → (ℕ → Bool) → ℕ
 packed zero bits = 0
-packed (suc n) bits = weight (bits n) (worth n) + packed n bits
+packed (suc n) bits = weight (bits n) (2 ^ n) + packed n bits
 
 packed_same : (n : ℕ) (f g : ℕ → Bool) → ((j : ℕ) → j < n → f j ≡ g j) → packed n f ≡ packed n g
 unfolding packed

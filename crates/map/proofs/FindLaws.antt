@@ -1,10 +1,9 @@
 -- The first number that passes a test, and the first free sector: which it is, what the answer says, and that reading every record finds the same. Assumes nothing.
-use Prim.Native.Nat.{ℕ, zero, suc, ◌+◌, ◌-◌, ◌*◌, ◌/◌, ◌%◌, ◌≤◌, ◌<◌}
+use Prim.Native.Nat.{ℕ, zero, suc, ◌+◌, ◌*◌, ◌/◌, ◌%◌, ◌≤◌, ◌<◌}
 use mathlib.Core.Bool.{Bool, true, false, not, cond, true≢false, not-not}
 use mathlib.Core.List.{List}
 use mathlib.Core.Path.{◌≡◌, refl, sym, ap, ◌∙◌}
 use native.Mathlib.Decide.{ℕ_discrete, dec_lt}
-use native.Mathlib.Numerals.{add-one}
 use native.Mathlib.Omega.{arith}
 use lib.Dec.{eqb, ltb}
 use lib.ListN.{length, get_or, take}
@@ -19,6 +18,8 @@ use Rattle.parts.proofs.CondLaws.{cond_by}
 use Rattle.parts.proofs.RowLaws.{below, each}
 use Rattle.parts.proofs.SectorLaws.{sector_length}
 use Rattle.map.specs.Sectors.{bit_at, TrueMap}
+use Rattle.std.specs.Int.{w8, trailing_ones, bit_at as bit_value}
+use Rattle.std.proofs.lemmas.Nat.Bits.{bit_at-trailing_ones}
 use Rattle.std.specs.Prelude.{Option, Some, None as Nowhere, Result, Ok, Err}
 use Rattle.refusals.specs.Refusals.{number_of}
 use Rattle.refusals.specs.declared.Refusal.{Refusal}
@@ -68,17 +69,6 @@ module _ (test : ℕ → Bool) where
       let g = first_found n k in
       omega (arith, not_later f g, not_later g f)
 
-  -- of the numbers from k on to an end, k is asked first
-  pub first_step : (k end : ℕ) → k < end → first_from test k (end - k) ≡ cond (test k) k (first_from test (k + 1) (end - (k + 1)))
-  unfolding first_from
-  first_step k end h =
-      let left : end - k ≡ suc (end - (k + 1)) = omega arith in
-      rw (left, add-one)
-
--- a byte's bits are tested for the lowest that is clear
-abbrev pub clear : ℕ → ℕ → Bool
-clear byte bit = not (bit_of byte bit)
-
 -- a sector's bit is tested for the first that is free
 abbrev pub free : List ℕ → ℕ → Bool
 free m k = not (bit_at k m)
@@ -97,15 +87,19 @@ set_more m at n few all bits k h = go (dec_lt k (at * 8))
         let here : k / 8 ≡ at = omega arith in
         rw here (bits (k % 8) (omega arith))
 
-lows : below 255 (λ byte. ltb (first_from (clear byte) 0 8) 8) ≡ true
-unfolding below first_from
-lows = refl
+-- a bit that counts 1 is set
+bit_set : (byte bit : ℕ) → bit < 8 → bit_value byte bit ≡ 1 → bit_of byte bit ≡ true
+bit_set byte bit h one =
+    let same : bit % 8 ≡ bit = omega arith in
+    rw same (eq-eqb (bit_value byte bit) 1 one)
 
--- a byte that is not FFh has a bit that is clear
-clear_some : (byte : ℕ) → byte < 255 → first_from (clear byte) 0 8 < 8
-clear_some byte h = ltb-true _ _ (each 255 (λ x. ltb (first_from (clear x) 0 8) 8) lows byte h)
+-- one that counts 0 is clear
+bit_clear : (byte bit : ℕ) → bit < 8 → bit_value byte bit ≡ 0 → bit_of byte bit ≡ false
+bit_clear byte bit h none =
+    let same : bit % 8 ≡ bit = omega arith in
+    rw same (ne_eqb (bit_value byte bit) 1 (λ e. absurd (omega (arith, e, none))))
 
--- FFh has none
+-- of FFh each is set
 pub set_all : (bit : ℕ) → bit < 8 → bit_of 0xff bit ≡ true
 unfolding below
 set_all = each 8 (bit_of 0xff) refl
@@ -123,16 +117,26 @@ found_sector : (k : ℕ) → k < 512 → found_at k ≡ Sector k
 unfolding found_at
 found_sector k h = rw (lt-ltb k 512 h)
 
--- after bytes of FFh, the lowest bit that is clear of another byte
+-- after bytes of FFh, the lowest bit that is clear of another byte: the one after the ones that it ends with
 pub found_in : (m : List ℕ) (at : ℕ) → length m ≡ 64 → at < 64 → AllSet (at * 8) m → get_or m at 0 < 255
-    → first_free m ≡ Sector (at * 8 + first_from (clear (get_or m at 0)) 0 8)
+    → first_free m ≡ Sector (at * 8 + trailing_ones w8 (get_or m at 0))
 found_in m at size few all some =
-    let low = first_from (clear (get_or m at 0)) 0 8 in
-    let f : First (clear (get_or m at 0)) 0 8 low = first_found (clear (get_or m at 0)) 8 0 in
-    let small : low < 8 = clear_some (get_or m at 0) some in
-    found_at_law m (at * 8 + low) size (omega arith) (set_more m at low (omega arith) all (λ j l. not-false _ (f.before j (omega arith) l)))
-    (λ l. bit_in m at low small ∙ not-true _ (f.here small))
+    let byte = get_or m at 0 in
+    let low = trailing_ones w8 byte in
+    let l = bit_at-trailing_ones w8 byte (omega (arith, some)) in
+    let small : low < 8 = l.0 in
+    found_at_law m (at * 8 + low) size (omega arith) (set_more m at low (omega arith) all (λ j h. bit_set byte j (omega arith) (l.2 j h)))
+    (λ h. bit_in m at low small ∙ bit_clear byte low small l.1)
     ∙ found_sector (at * 8 + low) (omega arith)
+
+-- where each byte before one is FFh, its sectors are in use
+pub full_before : (m : List ℕ) (at : ℕ) → ((i : ℕ) → i < at → get_or m i 0 ≡ 0xff) → AllSet (at * 8) m
+full_before m at full k h = rw (full (k / 8) (omega arith)) (set_all (k % 8) (omega arith))
+
+-- where each byte is, no sector is free
+pub found_none : (m : List ℕ) → length m ≡ 64 → ((i : ℕ) → i < 64 → get_or m i 0 ≡ 0xff) → first_free m ≡ None
+unfolding found_at
+found_none m size full = found_at_law m 512 size (omega arith) (full_before m 64 full) (λ h. absurd (omega arith))
 
 -- two tests that agree find the same
 pub first_same : (t u : ℕ → Bool) (n k : ℕ) → ((j : ℕ) → k ≤ j → j < k + n → t j ≡ u j) → first_from t k n ≡ first_from u k n

@@ -1,18 +1,18 @@
 -- What a piece of a trace leaves of a map: the sector entered whose cycle the piece's first event ends, by the array at the piece's end; samples write nothing.
 -- Assumes nothing.
-use Prim.Native.Nat.{ℕ, suc, ◌+◌, ◌-◌, ◌<◌}
+use Prim.Native.Nat.{ℕ, zero, suc, ◌+◌, ◌-◌, ◌<◌}
 use mathlib.Core.Bool.{Bool, true, false, ◌&&◌, false≢true}
 use mathlib.Core.Path.{◌≡◌, refl, sym, ap, ap₂, ◌∙◌}
-use mathlib.Core.List.{List, [], ◌∷◌, ◌++◌, map, map-append, append-nil}
+use mathlib.Core.List.{List, [], ◌∷◌, ◌++◌, map, append-nil}
 use native.Mathlib.Omega.{arith}
 use borrow.Author.Tests.{ne_eqb}
-use lib.ListN.{length, get_or, take, drop, length-drop, drop_of_length-le}
-use lib.Seq.{drop-append-le, get_or-drop, length-take-le, take-suc}
+use lib.ListN.{length, get_or, take, drop, drop_of_length-le}
+use Rattle.std.specs.List.{AllWithin}
+use Rattle.std.proofs.lemmas.List.{drop-drop, drop-take}
 use Rattle.parts.specs.Rows.{every, stepped}
 use Rattle.parts.specs.declared.wait.Target.{Target}
 use Rattle.parts.specs.declared.wait.Target.TheVariants.{None}
 use Rattle.parts.proofs.CondLaws.{and_left, and_right, cond_false}
-use Rattle.parts.proofs.RowLaws.{every_on}
 use Rattle.chip.specs.Run.{World, world, step, ran}
 use Rattle.chip.specs.View.{is_sample, samples}
 use Rattle.chip.specs.declared.chip.Chip.{Chip}
@@ -64,32 +64,20 @@ event_sample : (byte : ℕ) → byte < 8 → is_sample (event_of byte) ≡ true
 unfolding event_of is_sample
 event_sample byte h = rw (ne_eqb byte 8 (omega arith), ne_eqb byte 9 (omega arith), ne_eqb byte 10 (omega arith), ne_eqb byte 11 (omega arith))
 
--- a piece of one event has no other
-pub piece_begins : (bytes : List ℕ) (from : ℕ) → from < length bytes → samples (map event_of (drop 1 (take (from + 1 - from) (drop from bytes)))) ≡ true
+-- so the first n bytes of a row are samples where each is below 8
+low_samples : (n : ℕ) (row : List ℕ) → AllWithin (λ byte. byte < 8) row 0 n → samples (map event_of (take n row)) ≡ true
 unfolding every
-piece_begins bytes from h =
-    let one : from + 1 - from ≡ 1 = omega arith in
-    let left : length (drop from bytes) ≡ length bytes - from = length-drop from bytes in
-    let sized : length (take 1 (drop from bytes)) ≡ 1 = length-take-le 1 (drop from bytes) (omega arith) in
-    rw (one, drop_of_length-le (take 1 (drop from bytes)) {i = 1} (omega arith))
+low_samples zero row low = refl
+low_samples (suc n) [] low = refl
+low_samples (suc n) (byte ∷ row) low =
+    rw (event_sample byte (low 0 0 (omega arith) (omega arith)), low_samples n row (λ k d z h. low (suc k) d (omega arith) (omega arith)))
 
--- and one sample more
-pub piece_again : (bytes : List ℕ) (from i : ℕ) → from < i → i < length bytes → get_or bytes i 0 < 8
-    → samples (map event_of (drop 1 (take (i - from) (drop from bytes)))) ≡ true → samples (map event_of (drop 1 (take (i + 1 - from) (drop from bytes)))) ≡ true
-unfolding every
-piece_again bytes from i after within low before =
-    let left : length (drop from bytes) ≡ length bytes - from = length-drop from bytes in
-    let sized : length (take (i - from) (drop from bytes)) ≡ i - from = length-take-le (i - from) (drop from bytes) (omega arith) in
-    let there : from + (i - from) ≡ i = omega arith in
-    let here : get_or (drop from bytes) (i - from) 0 ≡ get_or bytes i 0 = get_or-drop from bytes (i - from) 0 ∙ ap (λ (n : ℕ). get_or bytes n 0) there in
-    let one : every is_sample (event_of (get_or bytes i 0) ∷ []) ≡ true = rw (event_sample (get_or bytes i 0) low) in
-    let more : i + 1 - from ≡ suc (i - from) = omega arith in
-    let longer : drop 1 (take (i + 1 - from) (drop from bytes)) ≡ drop 1 (take (i - from) (drop from bytes)) ++ (get_or bytes i 0 ∷ []) =
-    ap (λ (n : ℕ). drop 1 (take n (drop from bytes))) more
-    ∙ ap (λ (l : List ℕ). drop 1 l) (take-suc (drop from bytes) (i - from) 0 (omega arith) ∙ ap (λ (byte : ℕ). take (i - from) (drop from bytes) ++ (byte ∷ [])) here)
-    ∙ drop-append-le 1 (take (i - from) (drop from bytes)) (get_or bytes i 0 ∷ []) (omega arith) in
-    rw (longer, map-append event_of (drop 1 (take (i - from) (drop from bytes))) (get_or bytes i 0 ∷ []))
-    (every_on is_sample (map event_of (drop 1 (take (i - from) (drop from bytes)))) (event_of (get_or bytes i 0) ∷ []) before one)
+-- and so are those of a piece but its first, where n such bytes come after that
+pub piece_low : (bytes : List ℕ) (from n : ℕ) → AllWithin (λ byte. byte < 8) (drop (from + 1) bytes) 0 n
+    → samples (map event_of (drop 1 (take (from + 1 + n - from) (drop from bytes)))) ≡ true
+piece_low bytes from n low =
+    let size : from + 1 + n - from ≡ 1 + n = omega arith in
+    rw (size, drop-take 1 n (drop from bytes), drop-drop 1 from bytes) (low_samples n (drop (from + 1) bytes) low)
 
 -- a piece of event bytes
 bytes_kept : (bytes : List ℕ) (w : World) (m : List ℕ) → 0 < length bytes → samples (map event_of (drop 1 bytes)) ≡ true

@@ -91,17 +91,14 @@ pub fn power_up(
 }
 
 // Where the piece that begins at a place of a trace ends: before the next program-done or power-up.
-#[tactic(auto, using(crate::proofs::PieceLaws::piece_begins, crate::proofs::PieceLaws::piece_again))]
 fn piece_end(trace: &[u8], from: usize) -> usize
     requires { from < length trace.now }
     ensures { (from < result) × (result ≤ length trace.now) × (samples (mapped event_of (drop 1 (take (result - from) (drop from trace.now)))) ≡ true) }
 {
-    for i in from + 1..trace.len() {
-        if 8 <= trace[i] {
-            return i;
-        }
-    }
-    trace.len()
+    let Some(samples) = trace[from + 1..].iter().position(|event| 8 <= *event) else {
+        return trace.len();
+    };
+    from + 1 + samples
 }
 
 // Runs one piece. Only its first event can end a cycle, and no other writes a byte of the array.

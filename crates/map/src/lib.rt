@@ -8,4 +8,4 @@ mod sectors;
 
 pub use finding::first_free;
 pub use keeping::{event, power_up, run};
-pub use sectors::build;
+pub use sectors::{BYTES, build};

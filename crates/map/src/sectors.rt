@@ -5,34 +5,18 @@ ghost use Rattle.map.specs.Sectors.{with_bit, entered, with_map, build_refusal, 
 
 use chip::chip::Chip;
 use gate::is_free;
-use parts::phase::bit_of;
 use refusals::Refusal;
 
-// How many bytes a map has, and how many sectors the array.
-pub(crate) const BYTES: usize = 64;
+// How many bytes a map has.
+pub const BYTES: usize = 64;
 
-const SECTORS: usize = 512;
-
-// What each bit of a byte is worth.
-const WORTH: [u8; 8] = [1, 2, 4, 8, 16, 32, 64, 128];
-
-// The byte with one of its bits set or cleared.
-#[tactic(auto, using(crate::proofs::BitLaws::with_moved, crate::proofs::BitLaws::with_byte, crate::proofs::BitLaws::bit_least))]
-fn with_bit(byte: u8, bit: u8, on: bool) -> u8
-    ensures { result ≡ with_bit byte (bit % 8) on }
+// The byte of sector k, with the bit of this sector set or cleared.
+#[tactic(auto, using(crate::proofs::BitLaws::with_moved))]
+fn with_bit(byte: u8, k: usize, on: bool) -> u8
+    ensures { result ≡ with_bit byte (k % 8) on }
 {
-    let k = bit % 8;
-    let worth = WORTH[k as usize];
-    if bit_of(byte, k) {
-        if on {
-            return byte;
-        }
-        return byte - worth;
-    }
-    if on {
-        return byte + worth;
-    }
-    byte
+    let bit = 1 << (k % 8);
+    if on { byte | bit } else { byte & !bit }
 }
 
 // What a call with a map is answered, given what it is without one: a wrong map is refused after a wrong array, and before all else.
@@ -46,13 +30,6 @@ pub(crate) fn with_map(plain: Result<(), Refusal>, map: &[u8]) -> Result<(), Ref
     Err(Refusal::MapLength)
 }
 
-// Which bit of its byte is that of sector k.
-fn bit_place(k: usize) -> u8
-    ensures { result ≡ k % 8 }
-{
-    (k % 8) as u8
-}
-
 // Sets the bit of sector k from the array.
 #[tactic(auto, unfolding(crate::specs::Sectors::entered))]
 pub(crate) fn enter(map: &mut [u8], array: &[u8], k: usize)
@@ -63,7 +40,7 @@ pub(crate) fn enter(map: &mut [u8], array: &[u8], k: usize)
     let end = start + Chip::SECTOR;
     let free = is_free(&array[start..end]);
     let at = k / 8;
-    map[at] = with_bit(map[at], bit_place(k), !free);
+    map[at] = with_bit(map[at], k, !free);
 }
 
 // Refuses an array that is not 16,384 bytes.
@@ -82,7 +59,7 @@ pub fn build(array: &[u8], map: &mut [u8]) -> Result<(), Refusal>
     ensures { (status_of result ≡ build_refusal array.now map.old) × (map.new ≡ built_of array.now map.old) }
 {
     with_map(check_array(array), &map[..])?;
-    for k in 0..SECTORS {
+    for k in 0..Chip::SECTORS {
         enter(map, array, k);
     }
     Ok(())

@@ -1,23 +1,24 @@
--- A byte that is not FFh has the sector, FFh has none. Assumes nothing.
-use Rattle.std.proofs.Common.{◌≡◌, ◌+◌, ◌*◌, ◌<◌, sym, arith, get_or}
-use Rattle.map.specs.Finding.{found_at}
-use Rattle.map.proofs.FindLaws.{set_more, set_all, found_at_law, found_in}
+-- The first byte that is not FFh has the sector; where each is FFh, none is free. Assumes nothing.
+use Rattle.std.proofs.Common.{◌≡◌, ◌<◌, ◌≢◌, sym, arith, rules, tests, length, get_or}
+use Rattle.std.proofs.lemmas.Iterator.{IsFirst-from_position, YieldsList-from_slice}
+use Rattle.std.proofs.option.Match.{if_some, if_none}
+use Rattle.std.specs.List.{AllWithin}
+use Rattle.map.proofs.FindLaws.{full_before, found_in, found_none}
 use Rattle.map.proofs.finding.first_free.Goals as goal
 
-pub returns-then-byte : goal.returns-then-byte
-returns-then-byte c =
+pub returns-in_default : goal.returns-in_default
+returns-in_default c =
     let m = c.args.map.now in
-    let some : get_or m c.loop-at.at 0 < 255 = omega (arith, c.type_inv.map c.loop-at.at) in
-    rw (c.from.ensures, c.lowest_clear.ensures) (sym (found_in m c.loop-at.at c.if-map-ne-BYTES.false (omega arith) c.loop-at.invariant some))
-
-pub loop-at-preserved : goal.loop-at-preserved
-loop-at-preserved c =
-    let m = c.args.map.now in
-    let next : (c.loop-at.at + 1) * 8 ≡ c.loop-at.at * 8 + 8 = omega arith in
-    rw next (set_more m c.loop-at.at 8 (omega arith) c.loop-at.invariant (rw c.if-byte.false set_all))
+    let size = c.if-map-ne-BYTES.false in
+    let full : AllWithin (λ x. x ≡ 0xff) m 0 (length m) = if_none _ _ c.in_default.is (IsFirst-from_position _ _ _ (λ x. x ≢ 0xff) (λ x. x ≡ 0xff) c.position.ensures.ran (YieldsList-from_slice _ c.iter.ensures.rest) (λ x q k. search (rules, tests)) (λ x q k. search (rules, tests))) in
+    sym (found_none m size (λ i h. full i 0 (omega arith) (omega (arith, size))))
 
 pub returns : goal.returns
-unfolding found_at
 returns c =
-    let end : c.loop-at.at ≡ 64 = omega arith in
-    sym (found_at_law c.args.map.now 512 c.if-map-ne-BYTES.false (omega arith) (rw end at c.loop-at.invariant) (λ h. absurd (omega arith)))
+    let m = c.args.map.now in
+    let at = c.in-Some.at in
+    let size = c.if-map-ne-BYTES.false in
+    let first = if_some _ _ _ c.in-Some.is (IsFirst-from_position _ _ _ (λ x. x ≢ 0xff) (λ x. x ≡ 0xff) c.position.ensures.ran (YieldsList-from_slice _ c.iter.ensures.rest) (λ x q k. search (rules, tests)) (λ x q k. search (rules, tests))) in
+    let some : get_or m at 0 < 255 = omega (arith, c.type_inv.map at, first.1 0) in
+    rw c.trailing_ones.ensures
+    (sym (found_in m at size (omega (arith, first.0, size)) (full_before m at (λ i h. first.2 i 0 (omega arith) h)) some))
