@@ -1,14 +1,11 @@
 -- Rows of bytes: their length, their bytes, what part of the bytes they are, and the test of every one. Assumes nothing.
 use Prim.Native.Nat.{ℕ, zero, suc, ◌+◌, ◌-◌, ◌<◌, ◌≤◌}
-use mathlib.Core.Bool.{Bool, ◌&&◌}
 use mathlib.Core.Path.{◌≡◌, refl, sym, ap, ◌∙◌}
-use mathlib.Core.List.{List, [], ◌∷◌, map}
+use mathlib.Core.List.{List, map}
 use native.Mathlib.Nat.{add-zero}
 use native.Mathlib.Omega.{arith}
 use lib.ListN.{length, get_or, take, drop, length-drop, length-map, get_or-map}
 use lib.Seq.{length-take-le, get_or-take, get_or-drop, ext_get_or}
-use Rattle.std.specs.List.{list_all}
-use Rattle.parts.specs.Rows.{every}
 use Rattle.chip_bytes.specs.State.{row}
 
 -- a row has its length, and its k-th byte stands k further on

@@ -1,8 +1,8 @@
 -- Which of its texts a report is, by what running the trace answers; and how long a report can be. Assumes nothing.
-use Prim.Native.Nat.{ℕ, suc, ◌+◌, ◌≤◌, ◌<◌}
+use Prim.Native.Nat.{ℕ, ◌+◌, ◌≤◌, ◌<◌}
 use mathlib.Core.Bool.{Bool, true, false, cond}
 use mathlib.Core.Path.{◌≡◌, refl, sym, ap, ap₂, ◌∙◌}
-use mathlib.Core.List.{List, [], ◌∷◌, ◌++◌}
+use mathlib.Core.List.{List, ◌++◌}
 use native.Mathlib.Omega.{arith}
 use borrow.Author.Tests.{le-leb, lt-leb, leb-true, ne_eqb}
 use lib.Dec.{eqb, leb}
@@ -10,10 +10,10 @@ use lib.ListN.{length, take, drop, length-append, length-replicate}
 use lib.Seq.{take_at}
 use Rattle.parts.specs.Sector.{erased}
 use Rattle.chip.specs.Chip.{chip_fits}
-use Rattle.chip.specs.Run.{World, world, step}
+use Rattle.chip.specs.Run.{world}
 use Rattle.chip.specs.declared.chip.Chip.{Chip}
 use Rattle.chip.proofs.EventLaws.{taken_so}
-use Rattle.trace.specs.Bytes.{event_of, all_events}
+use Rattle.trace.specs.Bytes.{all_events}
 use Rattle.trace.specs.Trace.{Ran, answers_of, run_refusal, run_answers, ran_of, unless}
 use Rattle.trace.proofs.RunLaws.{length_answers}
 use Rattle.report.specs.Report.{answer_text, report_of}
