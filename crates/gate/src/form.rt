@@ -13,8 +13,8 @@ pub(crate) const RECORD_BYTES: usize = 32;
 pub(crate) const LABEL_BYTES: usize = 24;
 
 // Puts limits in range into bytes 0-3, and leaves the others.
-pub(crate) fn put_limits(buffer: &mut [u8], closed: i32, opened: i32)
-    requires { (length buffer.old ≡ 32) × ((in_range closed ≡ true) × (in_range opened ≡ true)) }
+pub(crate) fn put_limits(buffer: &mut [u8; RECORD_BYTES], closed: i32, opened: i32)
+    requires { (in_range closed ≡ true) × (in_range opened ≡ true) }
     ensures { buffer.new ≡ limit_bytes closed opened ++ drop 4 buffer.old }
 {
     put_pair(buffer, 0, bits_of(closed));
@@ -23,8 +23,7 @@ pub(crate) fn put_limits(buffer: &mut [u8], closed: i32, opened: i32)
 
 // Puts the sum of bytes 0-29 behind them.
 #[tactic(auto, using(crate::proofs::Build::sealed))]
-pub(crate) fn seal(buffer: &mut [u8])
-    requires { length buffer.old ≡ 32 }
+pub(crate) fn seal(buffer: &mut [u8; RECORD_BYTES])
     ensures { buffer.new ≡ sealed_of (take 30 buffer.old) }
 {
     let total = sum(&buffer[..30]);
@@ -32,8 +31,8 @@ pub(crate) fn seal(buffer: &mut [u8])
 }
 
 // Puts limits in range, the state byte and the label length in front, and spaces behind them.
-fn put_front(buffer: &mut [u8], closed: i32, opened: i32, n: u8)
-    requires { (length buffer.old ≡ 32) × ((in_range closed ≡ true) × (in_range opened ≡ true)) }
+fn put_front(buffer: &mut [u8; RECORD_BYTES], closed: i32, opened: i32, n: u8)
+    requires { (in_range closed ≡ true) × (in_range opened ≡ true) }
     ensures { buffer.new ≡ front_of closed opened n ++ replicate 26 0x20 }
 {
     buffer.fill(0x20);
@@ -44,8 +43,8 @@ fn put_front(buffer: &mut [u8], closed: i32, opened: i32, n: u8)
 
 // Puts the record of good limits and a good label over the whole buffer.
 #[tactic(auto, using(crate::proofs::Build::built))]
-pub(crate) fn put_record(buffer: &mut [u8], closed: i32, opened: i32, label: &[u8])
-    requires { (length buffer.old ≡ 32) × ((length label.now ≤ 24) × ((in_range closed ≡ true) × (in_range opened ≡ true))) }
+pub(crate) fn put_record(buffer: &mut [u8; RECORD_BYTES], closed: i32, opened: i32, label: &[u8])
+    requires { (length label.now ≤ 24) × ((in_range closed ≡ true) × (in_range opened ≡ true)) }
     ensures { buffer.new ≡ record_of closed opened label.now }
 {
     put_front(buffer, closed, opened, label.len() as u8);

@@ -3,7 +3,7 @@ ghost use Rattle.std.specs.Prelude.{◌≡◌};
 ghost use Rattle.refusals.specs.Refusals.{status_of};
 ghost use Rattle.gate.specs.Limiting.{limits_of, limited_of};
 
-use crate::form::{put_limits, seal};
+use crate::form::{RECORD_BYTES, put_limits, seal};
 use crate::limit::check_limits;
 use crate::reading::read;
 use refusals::Refusal;
@@ -26,6 +26,9 @@ pub fn set_limits(bytes: &mut [u8], closed: i32, opened: i32) -> Result<(), Refu
     ensures number { status_of result ≡ limits_of bytes.old closed opened }
     ensures bytes { bytes.new ≡ limited_of bytes.old closed opened }
 {
+    let bytes = bytes
+        .as_mut_array::<RECORD_BYTES>()
+        .ok_or(Refusal::RecordLength)?;
     check(bytes, closed, opened)?;
     put_limits(bytes, closed, opened);
     seal(bytes);

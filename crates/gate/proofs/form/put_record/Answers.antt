@@ -16,6 +16,6 @@ returns c =
     put_mid-paste 6 (6 + length label - 6) headed _ label (length label) c.copy_from_slice.ensures.after (omega arith) refl
     in
     c.seal.ensures
-    ∙ built a.closed a.opened label headed _ c.requires.1.0
+    ∙ built a.closed a.opened label headed _ c.requires.0
     (c.put_front.ensures ∙ rw (to_z-of_z w32 a.closed c.ranges.closed, to_z-of_z w32 a.opened c.ranges.opened))
     (rw take-length at laid)
