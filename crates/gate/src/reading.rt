@@ -8,7 +8,7 @@ use crate::answer::Gate;
 use crate::bytes::{all_are, pair_at, sum};
 use crate::form::{LABEL_BYTES, RECORD_BYTES};
 use crate::label::is_label;
-use crate::limit::{check_limits, limit_of, travel_of};
+use crate::limit::{Limits, limit_of};
 use refusals::Refusal;
 
 // Whether the stored sum is that of bytes 0-29.
@@ -38,13 +38,13 @@ fn content(bytes: &[u8; RECORD_BYTES]) -> Result<Option<Gate>, Refusal>
 {
     let closed = limit_of(pair_at(bytes, 0));
     let opened = limit_of(pair_at(bytes, 2));
-    if check_limits(i32::from(closed), i32::from(opened)).is_err() {
+    let Ok(limits) = Limits::new(i32::from(closed), i32::from(opened)) else {
         return Err(Refusal::RecordContent);
-    }
+    };
     Ok(Some(Gate {
         closed,
         opened,
-        travel: travel_of(closed, opened),
+        travel: limits.travel(),
         length: usize::from(bytes[5]),
     }))
 }

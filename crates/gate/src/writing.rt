@@ -5,7 +5,7 @@ ghost use Rattle.gate.specs.Writing.{write_of, written_of};
 
 use crate::form::{LABEL_BYTES, RECORD_BYTES, put_record};
 use crate::label::is_label;
-use crate::limit::check_limits;
+use crate::limit::Limits;
 use refusals::Refusal;
 
 // Writes the record of two limits and a label into a buffer of 32 bytes; or returns the first refusal that applies, and leaves the
@@ -25,7 +25,7 @@ pub fn write(buffer: &mut [u8], closed: i32, opened: i32, label: &[u8]) -> Resul
     if !is_label(label) {
         return Err(Refusal::LabelByte);
     }
-    check_limits(closed, opened)?;
-    put_record(buffer, closed, opened, label);
+    let limits = Limits::new(closed, opened)?;
+    put_record(buffer, limits, label);
     Ok(())
 }
