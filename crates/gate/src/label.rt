@@ -22,8 +22,7 @@ pub(crate) fn is_label(s: &[u8]) -> bool
 pub(crate) fn trimmed(s: &[u8]) -> &[u8]
     ensures { let left = trimmed_length s.now (length s.now) in (result.now ≡ take left s.now) × (length result.now ≡ left) }
 {
-    match s.iter().rposition(|b| *b != 0x20) {
-        Some(last) => &s[..=last],
-        None => &[],
-    }
+    s.iter()
+        .rposition(|b| *b != 0x20)
+        .map_or(&[], |last| &s[..=last])
 }
