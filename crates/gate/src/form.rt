@@ -1,10 +1,9 @@
 // The thirty-two bytes of a record, put into a buffer part by part.
-ghost use Rattle.std.specs.Prelude.{◌≡◌, true, ◌++◌, ◌≤◌, length, take, drop, replicate};
-ghost use Rattle.gate.specs.Limit.{in_range};
+ghost use Rattle.std.specs.Prelude.{◌≡◌, ◌++◌, ◌≤◌, length, take, drop, replicate};
 ghost use Rattle.gate.specs.Form.{limit_bytes, front_of, sealed_of, record_of};
 
 use crate::bytes::{put_pair, sum};
-use crate::limit::bits_of;
+use crate::limit::{Limits, bits_of};
 
 // How many bytes a record has.
 pub(crate) const RECORD_BYTES: usize = 32;
@@ -12,43 +11,40 @@ pub(crate) const RECORD_BYTES: usize = 32;
 // How many bytes a label has at most.
 pub(crate) const LABEL_BYTES: usize = 24;
 
-// Puts limits in range into bytes 0-3, and leaves the others.
-pub(crate) fn put_limits(buffer: &mut [u8], closed: i32, opened: i32)
-    requires { (length buffer.old ≡ 32) × ((in_range closed ≡ true) × (in_range opened ≡ true)) }
-    ensures { buffer.new ≡ limit_bytes closed opened ++ drop 4 buffer.old }
+// Puts limits into bytes 0-3, and leaves the others.
+pub(crate) fn put_limits(buffer: &mut [u8; RECORD_BYTES], limits: Limits)
+    ensures { buffer.new ≡ limit_bytes limits.closed limits.opened ++ drop 4 buffer.old }
 {
-    put_pair(buffer, 0, bits_of(closed));
-    put_pair(buffer, 2, bits_of(opened));
+    put_pair(buffer, 0, bits_of(limits.closed));
+    put_pair(buffer, 2, bits_of(limits.opened));
 }
 
 // Puts the sum of bytes 0-29 behind them.
 #[tactic(auto, using(crate::proofs::Build::sealed))]
-pub(crate) fn seal(buffer: &mut [u8])
-    requires { length buffer.old ≡ 32 }
+pub(crate) fn seal(buffer: &mut [u8; RECORD_BYTES])
     ensures { buffer.new ≡ sealed_of (take 30 buffer.old) }
 {
     let total = sum(&buffer[..30]);
     put_pair(buffer, 30, total);
 }
 
-// Puts limits in range, the state byte and the label length in front, and spaces behind them.
-fn put_front(buffer: &mut [u8], closed: i32, opened: i32, n: u8)
-    requires { (length buffer.old ≡ 32) × ((in_range closed ≡ true) × (in_range opened ≡ true)) }
-    ensures { buffer.new ≡ front_of closed opened n ++ replicate 26 0x20 }
+// Puts limits, the state byte and the label length in front, and spaces behind them.
+fn put_front(buffer: &mut [u8; RECORD_BYTES], limits: Limits, n: u8)
+    ensures { buffer.new ≡ front_of limits.closed limits.opened n ++ replicate 26 0x20 }
 {
     buffer.fill(0x20);
-    put_limits(buffer, closed, opened);
+    put_limits(buffer, limits);
     buffer[4] = 0xa5;
     buffer[5] = n;
 }
 
-// Puts the record of good limits and a good label over the whole buffer.
+// Puts the record of two limits and a label of at most 24 bytes over the whole buffer.
 #[tactic(auto, using(crate::proofs::Build::built))]
-pub(crate) fn put_record(buffer: &mut [u8], closed: i32, opened: i32, label: &[u8])
-    requires { (length buffer.old ≡ 32) × ((length label.now ≤ 24) × ((in_range closed ≡ true) × (in_range opened ≡ true))) }
-    ensures { buffer.new ≡ record_of closed opened label.now }
+pub(crate) fn put_record(buffer: &mut [u8; RECORD_BYTES], limits: Limits, label: &[u8])
+    requires { length label.now ≤ 24 }
+    ensures { buffer.new ≡ record_of limits.closed limits.opened label.now }
 {
-    put_front(buffer, closed, opened, label.len() as u8);
+    put_front(buffer, limits, label.len() as u8);
     buffer[6..6 + label.len()].copy_from_slice(label);
     seal(buffer);
 }

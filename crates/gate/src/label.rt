@@ -1,5 +1,5 @@
 // The label of a gate: which bytes it may hold, and its length without trailing spaces.
-ghost use Rattle.std.specs.Prelude.{◌≡◌, ◌≤◌, length};
+ghost use Rattle.std.specs.Prelude.{◌≡◌, length, take};
 ghost use Rattle.gate.specs.Label.{label_byte, is_label, trimmed_length};
 
 // Whether a byte may stand in a label: 20h-7Eh and A1h-FEh, characters of ISO 8859-1.
@@ -18,13 +18,11 @@ pub(crate) fn is_label(s: &[u8]) -> bool
     s.iter().all(|b| label_byte(*b))
 }
 
-// How many bytes of s are left without the spaces at its end.
-#[tactic(auto, using(crate::proofs::Walks::trim_last, crate::proofs::Walks::trim_all))]
-pub(crate) fn trimmed(s: &[u8]) -> usize
-    ensures { (result ≡ trimmed_length s.now (length s.now)) × (result ≤ length s.now) }
+// What is left of s without the spaces at its end.
+pub(crate) fn trimmed(s: &[u8]) -> &[u8]
+    ensures { let left = trimmed_length s.now (length s.now) in (result.now ≡ take left s.now) × (length result.now ≡ left) }
 {
-    match s.iter().rposition(|b| *b != 0x20) {
-        Some(last) => last + 1,
-        None => 0,
-    }
+    s.iter()
+        .rposition(|b| *b != 0x20)
+        .map_or(&[], |last| &s[..=last])
 }

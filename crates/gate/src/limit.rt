@@ -1,5 +1,5 @@
 // The two travel limits of a gate: their range, their sixteen bits in two's complement, and the travel between them.
-ghost use Rattle.std.specs.Prelude.{◌≡◌, true};
+ghost use Rattle.std.specs.Prelude.{◌≡◌, IfOk};
 ghost use Rattle.refusals.specs.Refusals.{status_of};
 ghost use Rattle.gate.specs.Limit.{in_range, limits_refusal, bits16, signed16, travel_of};
 
@@ -13,27 +13,46 @@ fn in_range(limit: i32) -> bool
     (-30000..=30000).contains(&limit)
 }
 
-// Refuses two limits by the first refusal that applies.
-#[tactic(auto, using(crate::proofs::Numbers::true_same, crate::proofs::Numbers::same_false))]
-pub(crate) fn check_limits(closed: i32, opened: i32) -> Result<(), Refusal>
-    ensures { status_of result ≡ limits_refusal closed opened }
-{
-    if !(in_range(closed) && in_range(opened)) {
-        return Err(Refusal::LimitRange);
-    }
-    if closed == opened {
-        return Err(Refusal::LimitsEqual);
-    }
-    Ok(())
+// The two limits of a gate.
+#[derive(Clone, Copy)]
+pub(crate) struct Limits {
+    pub(crate) closed: i16,
+    pub(crate) opened: i16,
 }
 
-// The sixteen bits of a limit in range.
-#[tactic(auto, unfolding(crate::specs::Limit::in_range, crate::specs::Limit::bits16))]
-pub(crate) fn bits_of(limit: i32) -> u16
-    requires { in_range limit ≡ true }
+impl Limits {
+    // Two limits that lie in range and differ, or the first refusal that applies.
+    #[tactic(auto, using(crate::proofs::Numbers::true_same, crate::proofs::Numbers::same_false), unfolding(crate::specs::Limit::in_range))]
+    pub(crate) fn new(closed: i32, opened: i32) -> Result<Limits, Refusal>
+        ensures number { status_of result ≡ limits_refusal closed opened }
+        ensures limits { IfOk result (λ limits. (limits.closed ≡ closed) × (limits.opened ≡ opened)) }
+    {
+        if !(in_range(closed) && in_range(opened)) {
+            return Err(Refusal::LimitRange);
+        }
+        if closed == opened {
+            return Err(Refusal::LimitsEqual);
+        }
+        Ok(Limits {
+            closed: closed as i16,
+            opened: opened as i16,
+        })
+    }
+
+    // Open minus closed, widened first so that the difference is exact.
+    pub(crate) fn travel(self) -> i32
+        ensures { result ≡ travel_of self.closed self.opened }
+    {
+        i32::from(self.opened) - i32::from(self.closed)
+    }
+}
+
+// The sixteen bits of a limit.
+#[tactic(auto, unfolding(crate::specs::Limit::bits16))]
+pub(crate) fn bits_of(limit: i16) -> u16
     ensures { result ≡ bits16 limit }
 {
-    (limit as i16).cast_unsigned()
+    limit.cast_unsigned()
 }
 
 // The limit that sixteen bits stand for.
@@ -42,11 +61,4 @@ pub(crate) fn limit_of(bits: u16) -> i16
     ensures { result ≡ signed16 bits }
 {
     bits.cast_signed()
-}
-
-// Open minus closed, widened first so that the difference is exact.
-pub(crate) fn travel_of(closed: i16, opened: i16) -> i32
-    ensures { result ≡ travel_of closed opened }
-{
-    i32::from(opened) - i32::from(closed)
 }

@@ -1,20 +1,21 @@
 // New limits into a good record, its label kept: the refusals in their order, then the bytes.
-ghost use Rattle.std.specs.Prelude.{◌≡◌};
+ghost use Rattle.std.specs.Prelude.{◌≡◌, IfOk};
 ghost use Rattle.refusals.specs.Refusals.{status_of};
 ghost use Rattle.gate.specs.Limiting.{limits_of, limited_of};
 
-use crate::form::{put_limits, seal};
-use crate::limit::check_limits;
+use crate::form::{RECORD_BYTES, put_limits, seal};
+use crate::limit::Limits;
 use crate::reading::read;
 use refusals::Refusal;
 
-// Refuses new limits by the first refusal that applies.
+// The new limits of a good record, or the first refusal that applies.
 #[tactic(auto, unfolding(crate::specs::Limiting::limits_of))]
-fn check(bytes: &[u8], closed: i32, opened: i32) -> Result<(), Refusal>
-    ensures { status_of result ≡ limits_of bytes.now closed opened }
+fn check(bytes: &[u8], closed: i32, opened: i32) -> Result<Limits, Refusal>
+    ensures number { status_of result ≡ limits_of bytes.now closed opened }
+    ensures limits { IfOk result (λ limits. (limits.closed ≡ closed) × (limits.opened ≡ opened)) }
 {
     match read(bytes)? {
-        Some(_) => check_limits(closed, opened),
+        Some(_) => Limits::new(closed, opened),
         None => Err(Refusal::NoGate),
     }
 }
@@ -26,8 +27,11 @@ pub fn set_limits(bytes: &mut [u8], closed: i32, opened: i32) -> Result<(), Refu
     ensures number { status_of result ≡ limits_of bytes.old closed opened }
     ensures bytes { bytes.new ≡ limited_of bytes.old closed opened }
 {
-    check(bytes, closed, opened)?;
-    put_limits(bytes, closed, opened);
+    let bytes = bytes
+        .as_mut_array::<RECORD_BYTES>()
+        .ok_or(Refusal::RecordLength)?;
+    let limits = check(bytes, closed, opened)?;
+    put_limits(bytes, limits);
     seal(bytes);
     Ok(())
 }

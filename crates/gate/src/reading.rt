@@ -8,12 +8,11 @@ use crate::answer::Gate;
 use crate::bytes::{all_are, pair_at, sum};
 use crate::form::{LABEL_BYTES, RECORD_BYTES};
 use crate::label::is_label;
-use crate::limit::{check_limits, limit_of, travel_of};
+use crate::limit::{Limits, limit_of};
 use refusals::Refusal;
 
 // Whether the stored sum is that of bytes 0-29.
-fn sum_right(bytes: &[u8]) -> bool
-    requires { length bytes.now ≡ 32 }
+fn sum_right(bytes: &[u8; RECORD_BYTES]) -> bool
     ensures { result ≡ eqb (sum_at bytes.now) (total (take 30 bytes.now)) }
 {
     pair_at(bytes, 30) == sum(&bytes[..30])
@@ -21,8 +20,7 @@ fn sum_right(bytes: &[u8]) -> bool
 
 // Whether length, label and padding are as the layout has them.
 #[tactic(auto, unfolding(crate::specs::Reading::label_fits))]
-fn label_fits(bytes: &[u8]) -> bool
-    requires { length bytes.now ≡ 32 }
+fn label_fits(bytes: &[u8; RECORD_BYTES]) -> bool
     ensures { result ≡ label_fits bytes.now }
 {
     let length = usize::from(bytes[5]);
@@ -35,19 +33,18 @@ fn label_fits(bytes: &[u8]) -> bool
 
 // The gate of a record whose label fits, unless its limits are refused.
 #[tactic(auto, using(crate::proofs::Numbers::wide_back), unfolding(crate::specs::Reading::content_of))]
-fn content(bytes: &[u8]) -> Result<Option<Gate>, Refusal>
-    requires { length bytes.now ≡ 32 }
+fn content(bytes: &[u8; RECORD_BYTES]) -> Result<Option<Gate>, Refusal>
     ensures { read_as result ≡ content_of bytes.now }
 {
     let closed = limit_of(pair_at(bytes, 0));
     let opened = limit_of(pair_at(bytes, 2));
-    if check_limits(i32::from(closed), i32::from(opened)).is_err() {
+    let Ok(limits) = Limits::new(i32::from(closed), i32::from(opened)) else {
         return Err(Refusal::RecordContent);
-    }
+    };
     Ok(Some(Gate {
         closed,
         opened,
-        travel: travel_of(closed, opened),
+        travel: limits.travel(),
         length: usize::from(bytes[5]),
     }))
 }
@@ -65,9 +62,9 @@ pub fn is_free(bytes: &[u8]) -> bool
 pub fn read(bytes: &[u8]) -> Result<Option<Gate>, Refusal>
     ensures { read_as result ≡ read_of bytes.now }
 {
-    if bytes.len() != RECORD_BYTES {
-        return Err(Refusal::RecordLength);
-    }
+    let bytes = bytes
+        .as_array::<RECORD_BYTES>()
+        .ok_or(Refusal::RecordLength)?;
     if is_free(bytes) {
         return Ok(None);
     }

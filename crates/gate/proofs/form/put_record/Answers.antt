@@ -1,8 +1,6 @@
 use Rattle.std.proofs.Common.{◌≡◌, ◌∙◌, ◌+◌, ◌-◌, length, refl, arith}
-use mir.Syntax.{w32}
 use lib.Seq.{paste, take-length}
 use borrow.Rule.Slice.PartMut.{put_mid}
-use Rattle.std.proofs.lemmas.Int.{to_z-of_z}
 use Rattle.std.proofs.lemmas.Slice.{put_mid-paste}
 use Rattle.gate.proofs.Build.{built}
 use Rattle.gate.proofs.form.put_record.Goals as goal
@@ -16,6 +14,4 @@ returns c =
     put_mid-paste 6 (6 + length label - 6) headed _ label (length label) c.copy_from_slice.ensures.after (omega arith) refl
     in
     c.seal.ensures
-    ∙ built a.closed a.opened label headed _ c.requires.1.0
-    (c.put_front.ensures ∙ rw (to_z-of_z w32 a.closed c.ranges.closed, to_z-of_z w32 a.opened c.ranges.opened))
-    (rw take-length at laid)
+    ∙ built a.limits.closed a.limits.opened label headed _ c.requires c.put_front.ensures (rw take-length at laid)
