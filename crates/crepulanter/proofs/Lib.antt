@@ -3,3 +3,4 @@ pub mod Labels
 pub mod OneEvent
 pub mod PowerUps
 pub mod Refusals
+pub mod Says

@@ -5,6 +5,7 @@
 -- |---|---|
 -- | `unfit` | the refusal of bytes that no chip has |
 -- | `Loads b number told` | the chip of these bytes, or where no chip has them a refusal of this number |
+-- | `Acts step f chip b r b' f'` | what a closure answers on a chip, and the bytes after it |
 -- | `checked`, `event_refusal` | the refusal of one event, given that of its chip and array, and by the bytes |
 -- | `run_number` | the refusal of a trace |
 -- | `power_up_number` | the refusal of a power-up with any choices |
@@ -13,7 +14,8 @@
 -- | `pulses_told` | the pulses that a recovery answers, 0 where it is refused |
 -- | `NewSays`, `EventSays`, `RunSays`, `PowerUpSays`, `RecoverSays` | the whole answer of each function |
 use Rattle.std.specs.Prelude.{ℕ, Bool, true, false, cond, not, ◌≡◌, List, eqb, length, Result, Ok, Err}
-use Rattle.refusals.specs.Refusals.{number_of}
+use Rattle.std.specs.Borrow.{MutBor}
+use Rattle.refusals.specs.Refusals.{number_of, status_of}
 use Rattle.refusals.specs.declared.Refusal.{Refusal}
 use Rattle.chip.specs.declared.chip.Chip.{Chip}
 use Rattle.chip.specs.Chip.{made, cut_array, power_up}
@@ -31,6 +33,23 @@ unfit xs = cond (eqb (length xs) 0x4000) 2 1
 abbrev pub Loads : List ℕ → ℕ → Result Chip Refusal → Type 0
 Loads b number (Ok chip) = (bytes_fit b ≡ true) × (chip ≡ chip_of b)
 Loads b number (Err refusal) = (bytes_fit b ≡ false) × (number_of refusal ≡ number)
+
+-- K4: a call of f on the chip answers r and leaves f'; the bytes become those of the chip that it left, and a refusal leaves them
+pub record Acts
+    {F T : Type 0}
+    (step : F → MutBor Chip → Result T Refusal → MutBor Chip → F → Type 0)
+    (f : F)
+    (chip : Chip)
+    (b : List ℕ)
+    (r : Result T Refusal)
+    (b' : List ℕ)
+    (f' : F)
+    : Type 0 where
+  pub shown : MutBor Chip
+  pub shows : shown.now ≡ chip
+  pub left : MutBor Chip
+  pub acted : step f shown r left f'
+  pub state : b' ≡ unless (status_of r) b (bytes_of left.now)
 
 -- O8: one event checks 1, 2 and then 6
 abbrev pub checked : ℕ → ℕ → ℕ

@@ -1,8 +1,8 @@
 // The five functions of a chip.
 ghost use Rattle.std.specs.Prelude.{◌≡◌};
-ghost use Rattle.refusals.specs.Refusals.{status_of};
-ghost use Rattle.crepulanter.specs.Calls.{unfit, Loads, pulses_told, NewSays, EventSays, RunSays, PowerUpSays, RecoverSays};
+ghost use Rattle.crepulanter.specs.Calls.{unfit, Loads, NewSays, EventSays, RunSays, PowerUpSays, RecoverSays};
 
+use crate::acts::with_chip;
 use chip::chip::Chip;
 use chip_bytes::{at, bytes_fit, pack, unpack};
 use recovery::recover;
@@ -34,22 +34,6 @@ pub extern "C" fn crep_new(state: &mut [u8; at::SIZE], part: u8, select: u8) -> 
     status(&made)
 }
 
-// Runs a trace on the chip that these bytes are, and makes them the chip after it; where it is refused, they stay.
-#[tactic(auto, using(crate::proofs::Refusals::unfit_taken), unfolding(crate::specs::Calls::run_number, trace::specs::Trace::unless))]
-fn run_in(
-    state: &mut [u8; at::SIZE],
-    array: &mut [u8],
-    trace: &[u8],
-    answers: &mut [u8],
-) -> Result<(), Refusal>
-    ensures { RunSays state.old array.old trace.now answers.old (status_of result) state.new array.new answers.new }
-{
-    let mut chip = load(state, &array[..])?;
-    run(&mut chip, array, trace, answers)?;
-    *state = pack(&chip);
-    Ok(())
-}
-
 // Runs a trace. Refused with 1, 2, 4, 5 or 6 it changes nothing and writes no answer.
 #[unsafe(no_mangle)]
 pub extern "C" fn crep_run(
@@ -60,7 +44,9 @@ pub extern "C" fn crep_run(
 ) -> u8
     ensures { RunSays state.old array.old trace.now answers.old result state.new array.new answers.new }
 {
-    status(&run_in(state, array, trace, answers))
+    let loaded = load(state, &array[..]);
+    let done = with_chip(state, loaded, &mut |chip| run(chip, array, trace, answers));
+    status(&done)
 }
 
 // Runs one event, as a trace of one. Refused with 1, 2 or 6 it changes nothing, and answers that the line is high, with note 0.
@@ -80,17 +66,6 @@ pub extern "C" fn crep_event(
     refused
 }
 
-// A power-up of the chip that these bytes are; they become the chip after it, or stay where it is refused.
-#[tactic(auto, using(crate::proofs::Refusals::unfit_taken), unfolding(crate::specs::Calls::power_up_number, trace::specs::Trace::unless))]
-fn power_up_in(state: &mut [u8; at::SIZE], array: &mut [u8], choices: u32) -> Result<(), Refusal>
-    ensures { PowerUpSays state.old array.old choices (status_of result) state.new array.new 1 }
-{
-    let mut chip = load(state, &array[..])?;
-    chip.power_up(array, choices)?;
-    *state = pack(&chip);
-    Ok(())
-}
-
 // A power-up with any 32 choices. Refused with 1 or 2 it changes nothing. It answers that the line is high, with note 0, in every case.
 #[unsafe(no_mangle)]
 pub extern "C" fn crep_power_up(
@@ -102,18 +77,9 @@ pub extern "C" fn crep_power_up(
     ensures { PowerUpSays state.old array.old choices result state.new array.new answer.new }
 {
     *answer = 1;
-    status(&power_up_in(state, array, choices))
-}
-
-// Recovery with the chip that these bytes are; they become the chip after it, or stay where it is refused.
-#[tactic(auto, using(crate::proofs::Refusals::unfit_taken), unfolding(crate::specs::Calls::recover_number, trace::specs::Trace::unless))]
-fn recover_in(state: &mut [u8; at::SIZE], array: &mut [u8], pin: u8) -> Result<u8, Refusal>
-    ensures { RecoverSays state.old array.old pin (status_of result) state.new array.new (pulses_told result) }
-{
-    let mut chip = load(state, &array[..])?;
-    let pulses = recover(&mut chip, array, pin != 0)?;
-    *state = pack(&chip);
-    Ok(pulses)
+    let loaded = load(state, &array[..]);
+    let done = with_chip(state, loaded, &mut |chip| chip.power_up(array, choices));
+    status(&done)
 }
 
 // Frees the bus. Refused with 1 or 2 it changes nothing and reports 0 pulses.
@@ -126,7 +92,8 @@ pub extern "C" fn crep_recover(
 ) -> u8
     ensures { RecoverSays state.old array.old pin result state.new array.new pulses.new }
 {
-    let freed = recover_in(state, array, pin);
+    let loaded = load(state, &array[..]);
+    let freed = with_chip(state, loaded, &mut |chip| recover(chip, array, pin != 0));
     *pulses = freed.unwrap_or(0);
     status(&freed)
 }

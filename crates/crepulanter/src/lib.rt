@@ -3,6 +3,7 @@
 // `crepulanter_c` calls each function under the same name in the archive.
 #![tactic(auto)]
 
+mod acts;
 mod chips;
 mod maps;
 mod records;

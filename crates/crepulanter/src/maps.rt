@@ -1,11 +1,11 @@
 // The five functions with a map.
 ghost use Rattle.std.specs.Prelude.{◌≡◌};
-ghost use Rattle.refusals.specs.Refusals.{status_of};
 ghost use Rattle.map.specs.Finding.{found_as};
 ghost use Rattle.map.specs.Sectors.{with_map, build_refusal, built_of};
 ghost use Rattle.crepulanter.specs.Calls.{unfit, Loads};
 ghost use Rattle.crepulanter.specs.Maps.{sector_number, FirstSays, MapEventSays, MapRunSays, MapPowerUpSays};
 
+use crate::acts::with_chip;
 use chip::chip::Chip;
 use chip_bytes::{at, bytes_fit, pack, unpack};
 use map::{build, first_free, power_up, run};
@@ -60,23 +60,6 @@ pub extern "C" fn crep_map_first(map: &[u8], sector: &mut u16) -> u8
     status(&found)
 }
 
-// Runs a trace on the chip that these bytes are, with the map kept, and makes them the chip after it; where it is refused, they stay.
-#[tactic(auto, using(crate::proofs::Refusals::unfit_map_taken), unfolding(crate::specs::Calls::run_number, trace::specs::Trace::unless))]
-fn run_in(
-    state: &mut [u8; at::SIZE],
-    array: &mut [u8],
-    map: &mut [u8],
-    trace: &[u8],
-    answers: &mut [u8],
-) -> Result<(), Refusal>
-    ensures { MapRunSays state.old array.old map.old trace.now answers.old (status_of result) state.new array.new map.new answers.new }
-{
-    let mut chip = load(state, &array[..], &map[..])?;
-    run(&mut chip, array, map, trace, answers)?;
-    *state = pack(&chip);
-    Ok(())
-}
-
 // Runs a trace and keeps the map. Refused with 1, 18, 2, 4, 5 or 6 it changes nothing and writes no answer.
 #[unsafe(no_mangle)]
 pub extern "C" fn crep_map_run(
@@ -88,7 +71,13 @@ pub extern "C" fn crep_map_run(
 ) -> u8
     ensures { MapRunSays state.old array.old map.old trace.now answers.old result state.new array.new map.new answers.new }
 {
-    status(&run_in(state, array, map, trace, answers))
+    let loaded = load(state, &array[..], &map[..]);
+    let done = with_chip(
+        state,
+        loaded,
+        &mut |chip| run(chip, array, map, trace, answers),
+    );
+    status(&done)
 }
 
 // Runs one event, as a trace of one, and keeps the map. Refused with 1, 18, 2 or 6 it changes nothing, and answers that the line is high, with
@@ -110,22 +99,6 @@ pub extern "C" fn crep_map_event(
     refused
 }
 
-// A power-up of the chip that these bytes are, with the map kept; they become the chip after it, or stay where it is refused.
-#[tactic(auto, using(crate::proofs::Refusals::unfit_map_taken), unfolding(crate::specs::Calls::power_up_number, trace::specs::Trace::unless))]
-fn power_up_in(
-    state: &mut [u8; at::SIZE],
-    array: &mut [u8],
-    map: &mut [u8],
-    choices: u32,
-) -> Result<(), Refusal>
-    ensures { MapPowerUpSays state.old array.old map.old choices (status_of result) state.new array.new map.new 1 }
-{
-    let mut chip = load(state, &array[..], &map[..])?;
-    power_up(&mut chip, array, map, choices)?;
-    *state = pack(&chip);
-    Ok(())
-}
-
 // A power-up with any 32 choices, with the map kept. Refused with 1, 18 or 2 it changes nothing. It answers that the line is high, with note 0,
 // in every case.
 #[unsafe(no_mangle)]
@@ -139,5 +112,11 @@ pub extern "C" fn crep_map_power_up(
     ensures { MapPowerUpSays state.old array.old map.old choices result state.new array.new map.new answer.new }
 {
     *answer = 1;
-    status(&power_up_in(state, array, map, choices))
+    let loaded = load(state, &array[..], &map[..]);
+    let done = with_chip(
+        state,
+        loaded,
+        &mut |chip| power_up(chip, array, map, choices),
+    );
+    status(&done)
 }
