@@ -14,7 +14,8 @@ use refusals::{Refusal, status};
 // What C is told where no sector is found: one past the last.
 const NONE: u16 = 512;
 
-// The chip of these bytes. Where no chip has them, they are refused: first for the array's length, then for the map's, if they are wrong too.
+// The chip of these bytes. Where no chip has them, they are refused: first for the array's length, then for the map's, if they are wrong too. The map's refusal
+// stands between those of `load` without a map, so that neither calls the other.
 #[tactic(auto, unfolding(crate::specs::Calls::unfit, map::specs::Sectors::with_map))]
 fn load(state: &[u8; at::SIZE], array: &[u8], map: &[u8]) -> Result<Chip, Refusal>
     ensures { Loads state.now (with_map (unfit array.now) map.now) result }

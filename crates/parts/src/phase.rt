@@ -2,6 +2,7 @@
 ghost use Rattle.std.specs.Prelude.{◌≡◌, ◌≤◌};
 ghost use Rattle.parts.specs.Phase.{weight, phase_fits, phase_pulls, received, bit_of, risen};
 
+// The phases. The four that receive a byte stay four and not one with a kind: the rules name them, and C numbers them.
 #[derive(Clone, Copy)]
 pub enum Phase {
     Standby,

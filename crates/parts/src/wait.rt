@@ -34,7 +34,7 @@ pub struct Wait {
     pub bytes: [u8; 32],
 }
 
-// Whether a place is chosen: bit k of the 32 choices.
+// Whether a place is chosen: bit k of the 32 choices. `bit_of` over 32 bits: one function for both widths would take a trait for one shift.
 fn is_chosen(choices: u32, k: u32) -> bool
     ensures { result ≡ chosen choices k }
 {

@@ -25,7 +25,8 @@ fn start_bytes(pin: bool) -> [u8; 1]
     [sample_byte(true, false, pin)]
 }
 
-// One pulse.
+// One pulse. That chip and array are not refused is asked of them as they are, here and in the two functions below: a struct that says it would be taken
+// apart again for each run.
 fn pulsed_once(chip: &mut Chip, array: &mut [u8], pin: bool)
     requires { refusal chip.old array.old ≡ 0 }
     ensures { world chip.new array.new ≡ pulse pin (world chip.old array.old) }

@@ -39,7 +39,7 @@ fn erased() -> [u8; Chip::BYTES]
     [255; Chip::BYTES]
 }
 
-// A page, and where the text on it ends.
+// A page, and where the text on it ends. Whole reports begin at its front: `answers`, `refused` and `report` ask for it, since only there a text is sure of room.
 #[derive(Drop)]
 struct Page<'a> {
     bytes: &'a mut [u8; 32768],

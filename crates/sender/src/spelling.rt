@@ -15,7 +15,8 @@ const START: [u8; 2] = [3, 1];
 // A stop after a ninth clock.
 const STOP: [u8; 3] = [0, 1, 3];
 
-// A buffer of events, and how many are written.
+// A buffer of events, and how many are written. It is not one with the page of `report`: a type takes methods in its own crate alone, and what the two
+// would share is `put`.
 #[derive(Drop)]
 pub(crate) struct Writer<'a> {
     pub(crate) events: &'a mut [u8],

@@ -1,4 +1,4 @@
-// Running a trace: event bytes in, one answer byte for each, the chip and its array carried on.
+// Running a trace: event bytes in, one answer byte for each, the chip and its array carried on. Chip and array stay two parameters, as C lends them apart.
 #![tactic(auto)]
 
 ghost use Rattle.std.specs.Prelude.{◌≡◌, ◌++◌, ◌≤◌, length, drop};

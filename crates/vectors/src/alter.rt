@@ -4,7 +4,8 @@ use parts::load::Load;
 use parts::phase::Phase;
 use parts::wait::{Target, Wait};
 
-// The phase of a number, 0 standby to 11 next as in the C header, with so many bits received or this bit being sent, all else 0.
+// The phase of a number, 0 standby to 11 next as in the C header, with so many bits received or this bit being sent, all else 0;
+// as `chip_bytes` unpacks it, which takes a whole chip.
 fn phase_of(phase: u8, bits: u8) -> Phase {
     match phase {
         1 => Phase::Slave { bits, got: 0 },
