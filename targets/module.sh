@@ -65,17 +65,18 @@ done
 # What names x86-64 goes: triple, layout, processor, and the probes of a stack that a system lets grow. A call of C returns
 # its byte in a whole register, which on x86-64 the caller widens and on the others the callee has to. And an optional pointer
 # is stored as a byte with the pointer 8 bytes behind it, but taken out as a pair of the two, which would stand closer where a
-# pointer is 4 bytes: the pair gets the 7 bytes between.
+# pointer is 4 bytes: the pair gets the 7 bytes between. An address is taken as a number of 64 bits by a word that wants the
+# pointer's own size; the older word widens it.
 "$work/clang" --target=x86_64-unknown-linux-gnu -S -emit-llvm -x ir "$work/module.bc" -o "$work/x86-64.ll"
 sed -e '/^target /d' -e 's/ "target-cpu"="x86-64"//' -e 's/ "probe-stack"="[^"]*" "stack-probe-size"="[^"]*"//' \
     -e 's/^define noundef i8 @crep_/define noundef zeroext i8 @crep_/' \
-    -e 's/\(extractvalue { i8, ptr } %[^,]*, \)1/\12/' -e 's/{ i8, ptr }/{ i8, [7 x i8], ptr }/g' "$work/x86-64.ll" > "$work/module.new"
+    -e 's/= ptrtoaddr ptr /= ptrtoint ptr /' -e 's/\(extractvalue { i8, ptr } %[^,]*, \)1/\12/' -e 's/{ i8, ptr }/{ i8, [7 x i8], ptr }/g' "$work/x86-64.ll" > "$work/module.new"
 sed -e '/^define .*@"\(chip\|trace\)::/! s/^\(define .*\) #0 {$/\1 optsize #0 {/' "$work/module.new" > "$work/small.ll"
 
 # Nothing of x86-64 is left, every C call has its word, memory is named by bytes, a pointer in the room of 64 bits, and the
 # structs are those whose places are the same on every processor: so no processor's layout is in it. Functions are for size or not.
 known() {
-    ! grep -q x86 "$work/module.new" \
+    ! grep -q -e x86 -e ptrtoaddr "$work/module.new" \
         && ! grep '^define .*@crep_' "$work/module.new" | grep -q -v ' zeroext i8 @' \
         && ! grep getelementptr "$work/module.new" | grep -q -v -E 'getelementptr (inbounds |nuw )*i8,' \
         && ! grep -o '{ [^{}]*[,0-9r] [^{}]*}' "$work/module.new" \
