@@ -27,6 +27,7 @@ pub fn read_full<R: Read>(reader: &mut R, buffer: &mut [u8]) -> io::Result<usize
 }
 
 // Runs a chip on what is read. One byte more than the longest trace is asked for, so that a longer one is seen and refused.
+// Events and page have a fixed size and a length beside them, since there is no heap here; the chip is used up.
 pub fn run(rt: &(impl Input + Print), chip: Chip) -> io::Result<()> {
     let mut events = [0u8; 4097];
     let n = read_full(&mut rt.reader(), &mut events)?;

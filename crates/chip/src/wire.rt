@@ -35,7 +35,7 @@ pub(crate) fn line_of(pulls: bool, sda: bool) -> bool
     !pulls && sda
 }
 
-// The edge between the last levels and these.
+// The edge between the last levels and these. Two wires, before and now: a match takes the four together, and a struct would be taken apart for it.
 #[tactic(auto, unfolding(crate::specs::Wire::edge_of))]
 pub(crate) fn edge_of(scl_before: bool, scl: bool, line_before: bool, line: bool) -> Edge
     ensures { result ≡ edge_of scl_before scl line_before line }

@@ -10,7 +10,8 @@ use parts::phase::Phase;
 use parts::register::Register;
 use parts::wait::{Target, Wait};
 
-// The phase of a number from 0 to 11, with those of the three bytes beside it that it carries. The numbers are those of the C interface.
+// The phase of a number from 0 to 11, with those of the three bytes beside it that it carries. The numbers are those of the C interface,
+// and each byte has a name here, which a row would not give it.
 #[tactic(auto, unfolding(crate::specs::State::phase_of))]
 fn phase_of(number: u8, bits: u8, byte: u8, high: u8) -> Phase
     ensures { result ≡ phase_of number bits byte high }
@@ -35,7 +36,8 @@ fn phase_of(number: u8, bits: u8, byte: u8, high: u8) -> Phase
     }
 }
 
-// What waits by its kind from 0 to 2, with those of the four bytes beside it that it carries. The kinds are numbers of the C interface.
+// What waits by its kind from 0 to 2, with those of the four bytes beside it that it carries. The kinds are numbers of the C interface,
+// and the bytes have names as in `phase_of`.
 #[tactic(auto, unfolding(crate::specs::State::target_of))]
 fn target_of(kind: u8, high: u8, low: u8, ppen: u8, bl: u8) -> Target
     ensures { result ≡ target_of kind high low ppen bl }

@@ -32,7 +32,7 @@ fn load(state: &[u8; at::SIZE], array: &[u8], map: &[u8]) -> Result<Chip, Refusa
     Err(Refusal::ChipRange)
 }
 
-// The sector found, or 512.
+// The sector found, or 512: of none and of a refusal, a line for each, as each is a case of its own in the definition.
 fn sector_number(found: &Result<Option<u16>, Refusal>) -> u16
     ensures { result ≡ sector_number (found_as found.now) }
 {
@@ -82,7 +82,7 @@ pub extern "C" fn crep_map_run(
 }
 
 // Runs one event, as a trace of one, and keeps the map. Refused with 1, 18, 2 or 6 it changes nothing, and answers that the line is high, with
-// note 0.
+// note 0. Its four lines are those of `crep_event`, around another call.
 #[unsafe(no_mangle)]
 pub extern "C" fn crep_map_event(
     state: &mut [u8; at::SIZE],

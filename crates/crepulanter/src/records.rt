@@ -26,6 +26,7 @@ pub extern "C" fn crep_record_limits(bytes: &mut [u8], closed: i32, opened: i32)
 }
 
 // Reads a record: its limits, its travel, its label's length, and whether it is free. Refused with 7, 12, 13 or 14 all are 0.
+// The length is at most 24, which the cast keeps.
 #[tactic(auto, using(crate::proofs::Labels::given_short))]
 #[unsafe(no_mangle)]
 pub extern "C" fn crep_record_read(

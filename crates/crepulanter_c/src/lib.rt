@@ -1,5 +1,6 @@
 // The exports of the kit for C, in libcrepulanter.a: each only calls the function of the same name in crate `crepulanter`, and promises what that
-// one promises, word for word. include/crepulanter.h is the other side of this interface.
+// one promises, word for word. They stand twice because a crate is a library, which `operations` and its theorems need, or a static library, which C
+// needs. include/crepulanter.h is the other side of this interface.
 #![tactic(auto)]
 
 ghost use Rattle.std.specs.Prelude.{◌≡◌};

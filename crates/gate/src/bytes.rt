@@ -19,7 +19,7 @@ pub(crate) fn sum(s: &[u8]) -> u16
     s.iter().map(|b| u16::from(*b)).sum()
 }
 
-// The sixteen bits of two bytes from byte at on, high byte first.
+// The sixteen bits of two bytes from byte at on, high byte first. Which pair it is is what its callers say, so it takes the row and the place.
 pub(crate) fn pair_at(s: &[u8], at: usize) -> u16
     requires { at + 1 < length s.now }
     ensures { result ≡ pair (get_or s.now at 0) (get_or s.now (at + 1) 0) }
@@ -27,7 +27,7 @@ pub(crate) fn pair_at(s: &[u8], at: usize) -> u16
     u16::from_be_bytes([s[at], s[at + 1]])
 }
 
-// Puts sixteen bits into two bytes from byte at on, high byte first.
+// Puts sixteen bits into two bytes from byte at on, high byte first; the place as in `pair_at`.
 pub(crate) fn put_pair(d: &mut [u8], at: usize, bits: u16)
     requires { at + 1 < length d.old }
     ensures { d.new ≡ set (set d.old at (bits / 256)) (at + 1) (bits % 256) }

@@ -38,7 +38,7 @@ fn put_front(buffer: &mut [u8; RECORD_BYTES], limits: Limits, n: u8)
     buffer[5] = n;
 }
 
-// Puts the record of two limits and a label of at most 24 bytes over the whole buffer.
+// Puts the record of two limits and a label of at most 24 bytes, a length that the cast keeps, over the whole buffer.
 #[tactic(auto, using(crate::proofs::Build::built))]
 pub(crate) fn put_record(buffer: &mut [u8; RECORD_BYTES], limits: Limits, label: &[u8])
     requires { length label.now ≤ 24 }

@@ -21,7 +21,7 @@ pub(crate) struct Limits {
 }
 
 impl Limits {
-    // Two limits that lie in range and differ, or the first refusal that applies.
+    // Two limits that lie in range and differ, or the first refusal that applies. In range the casts keep them; `try_from` would bring a refusal that cannot come.
     #[tactic(auto, using(crate::proofs::Numbers::true_same, crate::proofs::Numbers::same_false), unfolding(crate::specs::Limit::in_range))]
     pub(crate) fn new(closed: i32, opened: i32) -> Result<Limits, Refusal>
         ensures number { status_of result ≡ limits_refusal closed opened }

@@ -1,4 +1,4 @@
-// An event and a trace that keep the map beside the array.
+// An event and a trace that keep the map beside the array. Chip, array, map and answers stay parameters of their own, as C lends them apart.
 ghost use Rattle.std.specs.Prelude.{◌≡◌, true, ◌++◌, map as mapped, ◌-◌, ◌≤◌, ◌<◌, length, drop, take};
 ghost use Rattle.refusals.specs.Refusals.{status_of};
 ghost use Rattle.parts.specs.Wait.{target_fits};

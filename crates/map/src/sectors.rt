@@ -43,7 +43,7 @@ pub(crate) fn enter(map: &mut [u8], array: &[u8], k: usize)
     map[at] = with_bit(map[at], k, !free);
 }
 
-// Refuses an array that is not 16,384 bytes.
+// Refuses an array that is not 16,384 bytes; here no chip goes with it, as with the same test in `Chip::check`.
 fn check_array(array: &[u8]) -> Result<(), Refusal>
     ensures { status_of result ≡ cond (eqb (length array.now) 16384) 0 1 }
 {

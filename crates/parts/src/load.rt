@@ -36,7 +36,7 @@ impl Load {
         }
     }
 
-    // Takes one byte more, at the place of the low five bits of `at`.
+    // Takes one byte more, at the place of the low five bits of `at`: a remainder, which a cast keeps as `From` would.
     #[tactic(auto, unfolding(crate::specs::Load::loaded))]
     pub fn add(&mut self, at: u16, byte: u8)
         ensures { self.new ≡ loaded self.old at byte }

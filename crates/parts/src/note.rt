@@ -21,7 +21,7 @@ pub enum Note {
     Dropped = 7,
 }
 
-// The number of a note, 0 where there is none.
+// The number of a note, which for an enum a cast gives and no `From`; 0 where there is none.
 pub fn note_or_0(note: Option<Note>) -> u8
     ensures { result ≡ note_or_0 note }
 {

@@ -30,14 +30,14 @@ pub fn bit_of(byte: u8, bit: u8) -> bool
     (byte >> k) % 2 == 1
 }
 
-// `worth` where a bit is set, else 0.
+// `worth` where a bit is set, else 0: a choice, as the definition has it, and no longer than a conversion and a product.
 pub fn weigh(on: bool, worth: u8) -> u8
     ensures { (result ≡ weight on worth) × (result ≤ worth) }
 {
     if on { worth } else { 0 }
 }
 
-// What was received, with one bit more.
+// What was received, with one bit more; chosen by the bit, as in `weigh`.
 pub fn with_bit(got: u8, bit: bool) -> u8
     ensures { result ≡ received got bit }
 {

@@ -42,7 +42,7 @@ fn is_chosen(choices: u32, k: u32) -> bool
     (choices >> bit) % 2 == 1
 }
 
-// One place of a store: where it takes its byte and the array has its address, the byte.
+// One place of a store: where it takes its byte and the array has its address, the byte. The address is what it is about, so it goes beside the array.
 fn put(array: &mut [u8], at: usize, on: bool, byte: u8)
     ensures { array.new ≡ cond on (set array.old at byte) array.old }
 {
@@ -52,6 +52,7 @@ fn put(array: &mut [u8], at: usize, on: bool, byte: u8)
 }
 
 // Stores bytes in the sector that begins at `start`: places that are loaded and chosen take theirs, the others keep their own.
+// By number, since three rows and the choices share the place; it is below 32, which the type of the choices needs a cast for.
 fn store(array: &mut [u8], start: usize, choices: u32, places: &[bool; 32], bytes: &[u8; 32])
     requires { start + 32 < 2 ^ 64 }
     ensures { array.new ≡ stored array.old start (taking places.now choices) bytes.now }

@@ -46,7 +46,7 @@ pub enum Refusal {
 }
 
 impl Refusal {
-    // Its number, 1 to 18.
+    // Its number, 1 to 18, which for an enum a cast gives and no `From`.
     pub fn number(self) -> u8
         ensures { result ≡ number_of self }
     {

@@ -12,7 +12,7 @@ ghost use Rattle.report.specs.Page.{Puts};
 use chip::chip::Chip;
 use refusals::Refusal;
 
-// The last decimal digit of a number.
+// The last decimal digit of a number: a remainder below 10, which the cast keeps.
 fn glyph(n: usize) -> u8
     ensures { result ≡ glyph n }
 {
@@ -58,7 +58,7 @@ impl Page<'_> {
         bytes[start..self.end].copy_from_slice(text);
     }
 
-    // Writes a number below 10,000.
+    // Writes a number below 10,000. Notes and refusals are widened to it by a cast: a `From` keeps no more, and is one call more to answer for.
     fn number(&mut self, n: usize)
         requires { (self.old.end + 4 ≤ 32768) × (n < 10000) }
         ensures { Puts self.old self.new (numeral n) }
@@ -113,7 +113,7 @@ impl Page<'_> {
         self.text(b"\n");
     }
 
-    // Writes what the bench prints for a chip and event bytes.
+    // Writes what the bench prints for a chip and event bytes. The chip is used up: nothing of it is asked for afterwards.
     fn report(&mut self, chip: Chip, trace: &[u8])
         requires { self.old.end ≡ 0 }
         ensures { Puts self.old self.new (report_of chip trace.now) }
@@ -132,7 +132,7 @@ impl Page<'_> {
     }
 }
 
-// Writes what the bench prints for a chip and event bytes on a page, and answers its length. The rest of the page stays.
+// Writes what the bench prints for a chip and event bytes on a page, and answers its length. The rest of the page stays. The chip is used up.
 pub fn write_report(chip: Chip, trace: &[u8], page: &mut [u8; 32768]) -> usize
     ensures value { result ≡ length (report_of chip trace.now) }
     ensures page_after { page.new ≡ report_of chip trace.now ++ drop (length (report_of chip trace.now)) page.old }

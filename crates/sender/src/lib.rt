@@ -55,7 +55,8 @@ fn check(part: u8, select: u8, gate: u16, bytes: &[u8], room: usize) -> Result<(
 }
 
 // Writes the events that set PEL, where the part has one, and put a good record into the sector of its gate, protect pin low in each, and
-// answers their number. Refused, also with a free record, it writes nothing. Bytes past the events stay.
+// answers their number. Refused, also with a free record, it writes nothing. Bytes past the events stay. The number
+// is at most 713, which the cast keeps; `try_from` would bring a refusal that cannot come.
 #[tactic(auto, using(crate::proofs::Sends::send_taken), unfolding(crate::specs::Sending::sent_of, crate::specs::Sending::sent_buffer, trace::specs::Trace::unless))]
 pub fn send(
     part: u8,

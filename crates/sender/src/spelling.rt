@@ -35,7 +35,7 @@ impl Writer<'_> {
         events[start..self.end].copy_from_slice(bytes);
     }
 
-    // One clock: SCL low, then high, with one SDA in both.
+    // One clock: SCL low, then high, with one SDA in both. The clocks of `vectors` are methods of its tape, which may run full, and have any pin.
     fn clock(&mut self, sda: bool)
         requires { self.old.end + 2 ≤ length self.old.events.now }
         ensures { Puts self.old self.new (low (clock sda)) }
@@ -46,7 +46,7 @@ impl Writer<'_> {
         ]);
     }
 
-    // A byte that is sent: its bits, bit 7 first, and a ninth clock with SDA let go.
+    // A byte that is sent: its bits, bit 7 first, counted up as its definition counts them, and a ninth clock with SDA let go.
     fn byte(&mut self, byte: u8)
         requires { self.old.end + 18 ≤ length self.old.events.now }
         ensures { Puts self.old self.new (low (byte_sent byte)) }

@@ -43,7 +43,7 @@ pub fn sample_byte(scl: bool, sda: bool, pin: bool) -> u8
     weigh(scl, 1) + weigh(sda, 2) + weigh(pin, 4)
 }
 
-// The answer byte of a line and the number of a note; of any number, bits 0-2.
+// The answer byte of a line and the number of a note; of any number, bits 0-2, as its clause has it. So it takes a number and not a `Note`.
 pub fn answer_byte(line: bool, note: u8) -> u8
     ensures { result ≡ answer_byte line note }
 {
@@ -75,7 +75,7 @@ pub fn check(chip: &Chip, array: &[u8], trace: &[u8], room: usize) -> Result<(),
     Ok(())
 }
 
-// Runs the events one after the other, an answer byte for each.
+// Runs the events one after the other, an answer byte for each; by number, since events and answers are two rows.
 fn run_events(chip: &mut Chip, array: &mut [u8], trace: &[u8], answers: &mut [u8])
     requires { length trace.now ≤ length answers.old }
     ensures chip { chip.new ≡ (after trace.now (world chip.old array.old)).chip }

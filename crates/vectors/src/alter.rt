@@ -4,8 +4,8 @@ use parts::load::Load;
 use parts::phase::Phase;
 use parts::wait::{Target, Wait};
 
-// The phase of a number, 0 standby to 11 next as in the C header, with so many bits received or this bit being sent, all else 0;
-// as `chip_bytes` unpacks it, which takes a whole chip.
+// The phase of a number, 0 standby to 11 next as in the C header, with so many bits received or this bit being sent, all else 0. The function of this name
+// in `chip_bytes` is private to it: it is handed three bytes of a packed chip, and takes any number above 10 for the last phase.
 fn phase_of(phase: u8, bits: u8) -> Phase {
     match phase {
         1 => Phase::Slave { bits, got: 0 },
@@ -44,7 +44,7 @@ fn waiting_locks(n: u8) -> Wait {
     })
 }
 
-// Sets a field of the chip to a number: 0 part, 1 select, 2 BL, 3 counter (times 256), 4 phase and bits, 5 count of an empty load, 6 busy,
+// Sets a field of the chip to a number; the field is a number in the scripts: 0 part, 1 select, 2 BL, 3 counter (times 256), 4 phase and bits, 5 count of an empty load, 6 busy,
 // 7 spoil, 8 PPEN and BL that wait, 10 the bytes of the load, from 80h on a sector that waits. With another field nothing waits.
 pub(crate) fn alter(chip: &mut Chip, field: u8, n: u8) {
     match field {

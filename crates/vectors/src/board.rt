@@ -15,7 +15,7 @@ pub(crate) struct Board {
     // the line after the last event, and after the last sixteen rises of the clock
     pub line: bool,
     pub heard: u16,
-    // how much of the array is lent, and of the map
+    // how much of the array is lent, and of the map: a length beside a buffer of fixed size, since there is no heap here and a script may lend more than a chip has
     pub room: usize,
     pub span: usize,
     // whether the map goes with the events
@@ -38,7 +38,8 @@ impl Board {
         }
     }
 
-    // One event on what is lent: its refusal and its note are written where there is one.
+    // One event on what is lent: its refusal and its note are written where there is one. With the map it is another function with one thing more lent,
+    // here and for a whole trace.
     fn run(&mut self, rt: &impl Print, event: Event) -> io::Result<()> {
         let Some(array) = self.array.get_mut(..self.room) else {
             return Ok(());

@@ -22,7 +22,7 @@ pub(crate) struct Desk {
     minus: bool,
     // events stay on the tape
     pub recording: bool,
-    // how much of the answer buffer is lent
+    // how much of the answer buffer is lent; a length of its own, as those of the board
     pub space: usize,
     // the limits of the next record
     pub closed: i32,
@@ -50,7 +50,7 @@ impl Desk {
         self.number.unwrap_or(0)
     }
 
-    // The low byte of the number.
+    // The low byte of the number. Here and below a cast cuts on purpose.
     pub(crate) fn low_byte(&self) -> u8 {
         (self.value() & 0xff) as u8
     }

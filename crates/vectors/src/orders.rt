@@ -6,7 +6,7 @@ use chip::chip::Chip;
 use std::io;
 
 impl Desk {
-    // Reads a byte in nine clocks, with the ninth bit of whoever reads, and writes it.
+    // Reads a byte in nine clocks, with the ninth bit of whoever reads, and writes it: eight of the sixteen bits heard, which are no byte of the two.
     fn read_byte(&mut self, rt: &impl Print, ninth: bool) -> io::Result<()> {
         let pin = self.board.pin;
         self.drive(rt, |tape| tape.nine(pin, 0xff, ninth))?;
@@ -57,7 +57,10 @@ impl Desk {
             b'H' => loads::show_wait(rt, &self.board.chip.wait),
             b'm' => say::peek(rt, &self.board.array, self.value() as usize),
             b'o' => self.sector(rt),
-            b'W' | b'L' | b'R' | b'N' => self.record(rt, order),
+            b'W' => self.write_record(rt),
+            b'L' => self.set_limits(rt),
+            b'R' => self.read_record(rt),
+            b'N' => self.show_name(rt),
             b'M' => self.build(rt),
             b'G' => self.first_free(rt),
             b'I' => self.show_map(rt),
@@ -126,7 +129,7 @@ impl Desk {
     }
 }
 
-// Puts a byte at one position, if there is one.
+// Puts a byte at one position of a buffer, the place that a script names, if there is one.
 fn set_byte(buffer: &mut [u8], at: usize, byte: u8) {
     if let Some(place) = buffer.get_mut(at) {
         *place = byte;

@@ -27,26 +27,38 @@ fn name(rt: &impl Print, record: &[u8], standard: &[u8]) -> io::Result<()> {
 }
 
 impl Desk {
-    // An order on a record and a label: what is lent of the array and what is on the tape.
-    pub(crate) fn record(&mut self, rt: &impl Print, order: u8) -> io::Result<()> {
+    // What is lent of the array, as a record, and the label on the tape: an order on both; nothing where the script lends more than there is.
+    fn record<F: FnOnce(&mut [u8], &[u8]) -> io::Result<()>>(&mut self, order: F) -> io::Result<()>
+        requires { F.IsAlwaysCallable order }
+    {
         let Some(record) = self.board.array.get_mut(..self.board.room) else {
             return Ok(());
         };
         let Some(label) = self.tape.written() else {
             return Ok(());
         };
-        match order {
-            b'W' => {
-                let written = gate::write(record, self.closed, self.opened, label);
-                say::refused(rt, &written)
-            }
-            b'L' => {
-                let limited = gate::set_limits(record, self.closed, self.opened);
-                say::refused(rt, &limited)
-            }
-            b'R' => read(rt, record),
-            b'N' => name(rt, record, label),
-            _ => Ok(()),
-        }
+        order(record, label)
+    }
+
+    // Writes a record with the limits of the desk.
+    pub(crate) fn write_record(&mut self, rt: &impl Print) -> io::Result<()> {
+        let (closed, opened) = (self.closed, self.opened);
+        self.record(|record, label| say::refused(rt, &gate::write(record, closed, opened, label)))
+    }
+
+    // Sets the limits of a record.
+    pub(crate) fn set_limits(&mut self, rt: &impl Print) -> io::Result<()> {
+        let (closed, opened) = (self.closed, self.opened);
+        self.record(|record, _| say::refused(rt, &gate::set_limits(record, closed, opened)))
+    }
+
+    // Reads a record.
+    pub(crate) fn read_record(&mut self, rt: &impl Print) -> io::Result<()> {
+        self.record(|record, _| read(rt, record))
+    }
+
+    // The name that is shown for a record.
+    pub(crate) fn show_name(&mut self, rt: &impl Print) -> io::Result<()> {
+        self.record(|record, label| name(rt, record, label))
     }
 }

@@ -52,13 +52,13 @@ pub(crate) fn refused<T>(rt: &impl Print, answer: &Result<T, Refusal>) -> io::Re
 
 // The number of a note, where there is one.
 pub(crate) fn note(rt: &impl Print, note: Option<Note>) -> io::Result<()> {
-    if note.is_some() {
-        number(rt, b'\'', note_or_0(note), 1)?;
+    match note_or_0(note) {
+        0 => Ok(()),
+        told => number(rt, b'\'', told, 1),
     }
-    Ok(())
 }
 
-// `=` and the byte at one position, nothing but the sign where there is none.
+// `=` and the byte at one position of a buffer, the place that a script names; nothing but the sign where there is none.
 pub(crate) fn peek(rt: &impl Print, buffer: &[u8], at: usize) -> io::Result<()> {
     letter(rt, b'=')?;
     match buffer.get(at) {

@@ -7,7 +7,7 @@ use std::io;
 const BEFORE: u8 = 0xee;
 
 // Writes the notes of the answers with their positions; then how many answers were not written, how many lines were low, and the sum of
-// the answers that were written.
+// the answers that were written, which goes round at 65,536 as no `sum` does. Places and counts are cast for the print, which has no `From` of a usize.
 fn told(rt: &impl Print, answers: &[u8]) -> io::Result<()> {
     let mut sum: u16 = 0;
     for (at, answer) in answers.iter().enumerate() {
@@ -33,7 +33,7 @@ fn told(rt: &impl Print, answers: &[u8]) -> io::Result<()> {
 }
 
 impl Desk {
-    // Runs what is on the tape, on what is lent of array, map and answers.
+    // Runs what is on the tape, on what is lent of array, map and answers; with the map as `Board::run` has it.
     pub(crate) fn run_tape(&mut self, rt: &impl Print) -> io::Result<()> {
         let mut answers = [BEFORE; 65540];
         let board = &mut self.board;

@@ -1,4 +1,4 @@
-// The wires as event bytes: each method puts its events on a tape.
+// The wires as event bytes: each method puts its events on a tape. The pin goes with each: it is the board's, and a script may turn it between two events.
 use crate::tape::Tape;
 use parts::phase::bit_of;
 use trace::sample_byte;
