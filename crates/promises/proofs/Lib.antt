@@ -8,5 +8,6 @@ pub mod PowerCut
 pub mod Sender
 pub mod SenderRuns
 pub mod Spoil
+pub mod Steps
 pub mod Unread
 pub mod Witness

@@ -12,7 +12,7 @@ use lib.ListN.{length, drop}
 use Rattle.parts.specs.Load.{no_load, full_of, loaded}
 use Rattle.parts.specs.Locks.{locked}
 use Rattle.parts.specs.Phase.{weight, received, bit_of, phase_fits, phase_pulls, risen}
-use Rattle.parts.specs.Register.{has_register, register_byte, written}
+use Rattle.parts.specs.Register.{has_register, register_byte}
 use Rattle.parts.specs.Sector.{sector_start, next_place, next_address}
 use Rattle.parts.specs.Wait.{alone as by_itself, no_wait, wait_for, target_fits, waits, end_array, locks_taken}
 use Rattle.parts.proofs.register
@@ -21,18 +21,11 @@ use Rattle.parts.proofs.locks
 use Rattle.parts.proofs.sector
 use Rattle.parts.proofs.phase
 use Rattle.parts.proofs.wait
-use Rattle.chip.specs.Chip.{with_spoil, standard_chip, made}
-use Rattle.chip.specs.Event.{next, next_array, refusal, event_answer, event_array}
-use Rattle.chip.specs.declared.wire.Event.TheVariants.{PowerUp}
+use Rattle.chip.specs.Chip.{with_spoil, standard_chip}
 use Rattle.chip.proofs.chip.Chip
 use Rattle.trace.specs.Bytes.{event_of, sample_byte, answer_byte}
-use Rattle.trace.specs.Trace.{run_refusal, ran_of, run_array, run_answers}
 use Rattle.trace.proofs as trace
-use Rattle.map.specs.Finding.{first_free}
-use Rattle.map.specs.Keeping.{answer_of, answer_array, answer_map, trace_ran, trace_array, trace_map, trace_answers}
-use Rattle.map.specs.Sectors.{build_refusal, built_of}
 use Rattle.map.proofs as map
-use Rattle.recovery.specs.Recovery.{recovery_answer, recovery_array}
 use Rattle.recovery.proofs as recovery
 use Rattle.refusals.specs.Refusals.{number_of}
 use Rattle.refusals.proofs as refusals
