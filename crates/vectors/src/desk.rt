@@ -45,12 +45,12 @@ impl Desk {
         }
     }
 
-    // The number that was read, 0 where there is none.
+    // The number that was read, 0 where there is none. Where a place or some of its bits are meant, a cast takes them: no `From` of a u32 does.
     pub(crate) fn value(&self) -> u32 {
         self.number.unwrap_or(0)
     }
 
-    // The low byte of the number. Here and below a cast cuts on purpose.
+    // The low byte of the number.
     pub(crate) fn low_byte(&self) -> u8 {
         (self.value() & 0xff) as u8
     }
