@@ -38,13 +38,16 @@ fn put_front(buffer: &mut [u8; RECORD_BYTES], limits: Limits, n: u8)
     buffer[5] = n;
 }
 
-// Puts the record of two limits and a label of at most 24 bytes, a length that the cast keeps, over the whole buffer.
+// Puts the record of two limits and a label of at most 24 bytes, a length that the cast keeps, over the whole buffer. The label is copied byte by byte: a
+// slice's copy of a length that only the caller knows is a call of `memmove`, which firmware would have to bring.
 #[tactic(auto, using(crate::proofs::Build::built))]
 pub(crate) fn put_record(buffer: &mut [u8; RECORD_BYTES], limits: Limits, label: &[u8])
     requires { length label.now ≤ 24 }
     ensures { buffer.new ≡ record_of limits.closed limits.opened label.now }
 {
     put_front(buffer, limits, label.len() as u8);
-    buffer[6..6 + label.len()].copy_from_slice(label);
+    for (place, byte) in label.iter().enumerate() {
+        buffer[6 + place] = *byte;
+    }
     seal(buffer);
 }

@@ -1,13 +1,15 @@
 -- The event bytes of wires with the pin low: of a row after another, how many they are, and each next clock or byte of a row. Assumes nothing.
 use Prim.Native.Nat.{ℕ, zero, suc, ◌+◌, ◌-◌, ◌*◌, ◌≤◌, ◌<◌}
-use mathlib.Core.Bool.{Bool, false}
+use mathlib.Core.Bool.{Bool, true, false}
 use mathlib.Core.List.{List, [], ◌∷◌, ◌++◌, append_assoc, append-nil}
 use mathlib.Core.Path.{◌≡◌, refl, sym, ap, ◌∙◌}
 use native.Mathlib.Omega.{arith}
 use native.Mathlib.Numerals.{add-one}
-use lib.ListN.{length, get_or, take}
+use lib.ListN.{length, get_or, set, take, length-set}
 use lib.Seq.{take-suc, length-take-le}
+use Rattle.std.proofs.lemmas.List.{take_more_set}
 use Rattle.parts.specs.Phase.{bit_of}
+use Rattle.trace.specs.Bytes.{sample_byte}
 use Rattle.messages.specs.Messages.{byte_sent, bytes_sent}
 use Rattle.messages.specs.Wires.{Wires, clock, clocks, bits_of, spelled}
 use Rattle.messages.proofs.Spelling.{spelled_length, bytes_length}
@@ -72,6 +74,28 @@ next_clock byte k l =
     let row : List Bool = take k (bits_of byte) in
     let more : take (k + 1) (bits_of byte) ≡ row ++ (bit_of byte (7 - k) ∷ []) = rw (add-one, ← bits_at byte k l) (take-suc (bits_of byte) k false l) in
     sym (ap clocks more ∙ clocks_more row (bit_of byte (7 - k)))
+
+-- two stores leave the length
+pub clock_room : (events : List ℕ) (at a b : ℕ) → length (set (set events at a) (at + 1) b) ≡ length events
+clock_room events at a b = length-set (set events at a) (at + 1) b ∙ length-set events at a
+
+-- and make a clock behind those that stand in front
+pub clock_behind : (events : List ℕ) (k : ℕ) (sda : Bool) (row : List Wires) → k * 2 + 2 ≤ length events → take (k * 2) events ≡ low row
+    → take ((k + 1) * 2) (set (set events (k * 2) (sample_byte false sda false)) (k * 2 + 1) (sample_byte true sda false)) ≡ low (row ++ clock sda)
+unfolding spelled
+clock_behind events k sda row room front =
+    let a : ℕ = sample_byte false sda false in
+    let b : ℕ = sample_byte true sda false in
+    let at : ℕ = k * 2 in
+    let first : List ℕ = set events at a in
+    let far : (k + 1) * 2 ≡ at + 1 + 1 = omega arith in
+    let wide : at + 1 < length first = omega (arith, room, length-set events at a) in
+    let more : take (at + 1) first ≡ take at events ++ (a ∷ []) = take_more_set events at a (omega (arith, room)) in
+    ap (λ (n : ℕ). take n (set first (at + 1) b)) far
+    ∙ take_more_set first (at + 1) b wide
+    ∙ ap (λ (l : List ℕ). l ++ (b ∷ [])) (more ∙ ap (λ (l : List ℕ). l ++ (a ∷ [])) front)
+    ∙ append_assoc (low row) (a ∷ []) (b ∷ [])
+    ∙ sym (low_on row (clock sda))
 
 -- a row's next byte
 pub next_byte : (bytes : List ℕ) (i : ℕ) → i < length bytes → bytes_sent (take i bytes) ++ byte_sent (get_or bytes i 0) ≡ bytes_sent (take (i + 1) bytes)
