@@ -1,6 +1,6 @@
 // What the operations on a record answer: a gate for reading, its values for a caller that cannot take a `Result`, and a span.
 ghost use Rattle.std.specs.Prelude.{◌≡◌};
-ghost use Rattle.gate.specs.Answer.{zeros_of, given_of, read_as};
+ghost use Rattle.gate.specs.Answer.{Refused, zeros_of, given_of, read_as};
 
 use refusals::Refusal;
 
@@ -34,6 +34,15 @@ fn zeros(number: u8) -> Given
         opened: 0,
         travel: 0,
         length: 0,
+    }
+}
+
+impl Given {
+    // The values of a refusal by its number, which may be any: a caller that keeps numbers has no `Refusal` for one that this kit never gives.
+    pub fn refused(number: u8) -> Given
+        ensures { result ≡ given_of (Refused number) }
+    {
+        zeros(number)
     }
 }
 

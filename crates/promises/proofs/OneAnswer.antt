@@ -39,7 +39,7 @@ use Rattle.map.proofs.FindLaws.{same_found}
 use Rattle.recovery.proofs.ToldLaws.{same_recovered}
 use Rattle.gate.specs.Naming.{span_of, name_of}
 use Rattle.gate.specs.Reading.{is_free}
-use Rattle.gate.specs.Answer.{read_as, given_of}
+use Rattle.gate.specs.Answer.{Refused, read_as, given_of}
 use Rattle.gate.proofs as gate
 use Rattle.gate.proofs.Answers.{same_read}
 use Rattle.sender.proofs as sender
@@ -269,6 +269,10 @@ operations =
     -- Given::from
     ∷ one (whole 0 gate.answer.GivenFromResultOptionGateRefusal.from.Kinds.ps gate.answer.GivenFromResultOptionGateRefusal.from.Kinds.r gate.answer.GivenFromResultOptionGateRefusal.from.Reads.Post)
     (λ κs (answer, end). (given_of (read_as answer), (tt, tt)))
+    (λ κs input r left. alone)
+    -- Given::refused
+    ∷ one (whole 0 gate.answer.Given.refused.Kinds.ps gate.answer.Given.refused.Kinds.r gate.answer.Given.refused.Reads.Post)
+    (λ κs (number, end). (given_of (Refused number), (tt, tt)))
     (λ κs input r left. alone)
     -- gate::shown_span
     ∷ one (whole 2 gate.shown_span.Kinds.ps gate.shown_span.Kinds.r gate.shown_span.Reads.Post)
