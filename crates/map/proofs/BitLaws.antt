@@ -1,11 +1,11 @@
 -- One bit of a byte: what a byte with this bit set or cleared is, and which bits it has; a byte is its bits. Computed for every byte and every bit. Assumes nothing.
-use Prim.Native.Nat.{ℕ, zero, suc, ◌+◌, ◌-◌, ◌*◌, ◌%◌, ◌^◌, ◌<◌}
+use Prim.Native.Nat.{ℕ, zero, suc, ◌+◌, ◌-◌, ◌*◌, ◌%◌, ◌^◌, ◌≤◌, ◌<◌}
 use mathlib.Core.Bool.{Bool, true, false, cond, beq}
 use mathlib.Core.Path.{◌≡◌, refl, sym, ◌∙◌}
 use native.Mathlib.Omega.{arith}
 use lib.Bits.{bit_and, bit_or}
-use lib.Dec.{eqb, ltb}
-use borrow.Author.Tests.{eqb-true, ltb-true}
+use lib.Dec.{eqb, leb, ltb}
+use borrow.Author.Tests.{eqb-true, leb-true, ltb-true}
 use Rattle.parts.specs.Phase.{weight, bit_of}
 use Rattle.parts.proofs.CondLaws.{beq_true}
 use Rattle.parts.proofs.RowLaws.{below, each}
@@ -50,6 +50,15 @@ moves false = refl
 -- its mask put in, or taken out
 pub with_moved : (byte bit : ℕ) (on : Bool) → byte < 256 → bit < 8 → with_bit byte bit on ≡ moved on byte bit
 with_moved byte bit on h k = eqb-true _ _ (at_bit (λ x b. eqb (with_bit x b on) (moved on x b)) (moves on) byte bit h k)
+
+leasts : below 256 (λ byte. below 8 (λ bit. leb (weight (bit_of byte bit) (2 ^ bit)) byte)) ≡ true
+unfolding below
+leasts = refl
+
+-- a byte is not less than a bit that it has
+pub bit_least : (byte bit : ℕ) → byte < 256 → bit < 8 → bit_of byte bit ≡ true → 2 ^ bit ≤ byte
+bit_least byte bit h k e =
+    rw e at (leb-true (weight (bit_of byte bit) (2 ^ bit)) byte (at_bit (λ x b. leb (weight (bit_of x b) (2 ^ b)) x) leasts byte bit h k))
 
 -- the number that n bits are
 unfoldable packed : ℕ → (ℕ → Bool) → ℕ
