@@ -1,4 +1,4 @@
--- Each refusal has a number of its own, and none has 0.
+-- Each refusal has a number of its own, and none has 0. Assumes nothing.
 use Rattle.std.specs.Prelude.{ℕ, ◌≡◌, List, [], ◌∷◌, slice_index_or, Result, Ok, Err}
 use Rattle.std.specs.Result.{IsOk}
 use Rattle.std.proofs.Common.{refl, ◌∙◌, sym, ap}

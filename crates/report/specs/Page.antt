@@ -1,4 +1,4 @@
--- A page with a text on it, and what writing more of it leaves.
+-- A page with a text on it, and what writing more of it leaves. (RULES P3-P7.)
 --
 -- | Name | Meaning |
 -- |---|---|

@@ -1,4 +1,4 @@
--- A buffer of events, and what writing more of them leaves.
+-- A buffer of events, and what writing more of them leaves. (RULES A1, A2.)
 --
 -- | Name | Meaning |
 -- |---|---|
