@@ -112,7 +112,7 @@ fn copy_chip(state: &mut [u8; at::SIZE], chip: &Chip)
     copy_wait(state, &chip.wait);
 }
 
-// The bytes of a chip. Where it is called they are put where they are wanted; as a function of its own it copied them once more, at each call of C.
+// The bytes of a chip. As a function of its own it would copy them once more at each call of C.
 #[inline(always)]
 pub fn pack(chip: &Chip) -> [u8; at::SIZE]
     ensures { result ≡ bytes_of chip.now }
